@@ -1,0 +1,19 @@
+ghost use mathlib.Core.Path.{_≡_};
+ghost use lib.IntN.{_*ℤ_};
+ghost use Rattle.money.specs.Rounding.{rounded, Nearest};
+
+// Thousandths of a cent to the nearest cent, a half going away from zero.
+pub fn round_cents(thousandths: i64) -> i64
+    ensures value { λ r. ⌜ r ≡ rounded thousandths ⌝ }
+    ensures nearest { λ r. ⌜ Nearest thousandths r ⌝ }
+{
+    let cents = ((thousandths.unsigned_abs() + 500) / 1000) as i64;
+    if thousandths < 0 { -cents } else { cents }
+}
+
+// Energy at a price, in thousandths of a cent. Any two i32 have a product within i64.
+pub fn product(kwh: i32, price: i32) -> i64
+    ensures { λ r. ⌜ r ≡ kwh *ℤ price ⌝ }
+{
+    i64::from(kwh) * i64::from(price)
+}

@@ -1,0 +1,6 @@
+// Money in cents, and its finer unit: kWh times cents per MWh are thousandths of a cent.
+
+mod amount;
+
+pub use amount::product;
+pub use amount::round_cents;
