@@ -1,0 +1,4 @@
+pub mod Ranges
+pub mod Made
+pub mod Forms
+pub mod Scans
