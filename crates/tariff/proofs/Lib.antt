@@ -2,3 +2,8 @@ pub mod Ranges
 pub mod Made
 pub mod Forms
 pub mod Scans
+pub mod Steps
+pub mod Runs
+pub mod Fills
+pub mod Joins
+pub mod Commits

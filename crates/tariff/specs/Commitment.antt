@@ -1,6 +1,7 @@
 -- Self-commitment: the periods that a generator's own schedule binds it to.
 -- MRT and MDT are its minimum run and down time in hours, MDS its maximum daily start-ups.
 --
+--   flags      an hour is flagged if its self-schedule is above zero
 --   stays      step 1, one hour: flagged, or the hour before belongs to a period that began fewer than MRT hours ago
 --   held       step 1: which hours belong
 --   join       two periods and the gap between them, as one
@@ -10,16 +11,26 @@
 --   joined     the two periods with the smallest gap are joined, the earliest on a tie
 --   limitOf    how many periods may remain
 --   periods    all three steps in order
+--   periodsOf  the same of a generator's day
 use mathlib.Core.Bool.{Bool, true, false, cond, _&&_, _||_}
-use mathlib.Core.List.{List, [], _∷_}
+use mathlib.Core.List.{List, [], _∷_, map}
 use Prim.Native.Nat.{ℕ, zero, suc, _+_, _-_}
 use lib.Dec.{ltb}
 use lib.ListN.{length}
 use Rattle.std.specs.Iters.{folded}
 use Rattle.std.specs.declared.option.Option.{Option}
 use Rattle.std.specs.declared.option.Option.the-variants.{Some, None}
+use Rattle.tariff.specs.declared.generator.Generator.{Generator}
+use Rattle.tariff.specs.declared.records.HourRecord.{HourRecord}
 use Rattle.tariff.specs.declared.stretch.Stretch.{Stretch}
+use Rattle.tariff.specs.Days.{counted}
 use Rattle.tariff.specs.Stretches.{stretches, covers, gap, gaps}
+
+abbrev pub flagged : Option HourRecord → Bool
+flagged slot = ltb 0 (counted slot .«self_schedule»)
+
+abbrev pub flags : List (Option HourRecord) → List Bool
+flags slots = map flagged slots
 
 -- `ran` is how many hours ago the period began that the hour before belongs to, 0 if it belongs to none
 abbrev pub stays : ℕ → ℕ → Bool → Bool
@@ -84,3 +95,6 @@ afterMdt mrt mdt flags = bridged mdt (afterMrt mrt flags)
 abbrev pub periods : ℕ → ℕ → ℕ → Bool → List Bool → List Stretch
 periods mrt mdt mds carried flags =
     limited (limitOf mds carried (afterMdt mrt mdt flags)) (afterMdt mrt mdt flags)
+
+abbrev pub periodsOf : Generator → List (Option HourRecord) → List Stretch
+periodsOf g slots = periods (g .mrt) (g .mdt) (g .mds) (g .«carried_in») (flags slots)

@@ -1,7 +1,9 @@
 ghost use mathlib.Core.Path.{_≡_};
 ghost use mathlib.Core.Bool.{_&&_};
 ghost use mathlib.Core.List.{[]};
+ghost use Prim.Native.Nat.{_≤_};
 ghost use lib.Dec.{leb};
+ghost use lib.ListN.{length};
 ghost use Rattle.tariff.specs.Stretches.{listed, added, ended, going, stretches, covers, gap};
 use super::Stretch;
 use super::Stretches;
@@ -41,7 +43,8 @@ impl Stretches {
     }
 
     pub fn as_slice(&self) -> &[Stretch]
-        ensures { λ r. ⌜ now r ≡ listed (now (self .entry)) ⌝ }
+        ensures value { λ r. ⌜ now r ≡ listed (now (self .entry)) ⌝ }
+        ensures few { λ r. ⌜ length (now r) ≤ 24 ⌝ }
     {
         &self.items[0..self.count]
     }

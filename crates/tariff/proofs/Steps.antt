@@ -1,0 +1,97 @@
+-- The loops of self-commitment, turn by turn.
+use mathlib.Core.Path.{_≡_, refl, sym, ap, _∙_}
+use mathlib.Core.Bool.{Bool, true, false, cond, _&&_}
+use mathlib.Core.List.{List, [], _∷_, _++_, append-assoc, append-nil}
+use Prim.Native.Nat.{ℕ, suc, _+_, _-_, _<_, _≤_}
+use native.Mathlib.Omega.{arith}
+use lib.Dec.{ltb}
+use lib.ListN.{length, getD, set, take, drop, length-append}
+use mir.Val.{boolByte}
+use Rattle.std.specs.Iters.{folded}
+use Rattle.std.specs.Vec.{listOf}
+use Rattle.std.specs.declared.option.Option.{Option}
+use Rattle.std.specs.declared.option.Option.the-variants.{Some, None}
+use Rattle.std.proofs.shelf.Lists.{take-more-set, take-all, at-drop-more, at-drop-all}
+use Rattle.tariff.specs.declared.stretch.Stretch.{Stretch}
+use Rattle.tariff.specs.Stretches.{added, gap, gapsAfter, gaps}
+use Rattle.tariff.specs.Commitment.{stays, heldFrom, join, fillFrom, fill, smaller, smallest, joinedAt, joined, joins}
+use Rattle.tariff.proofs.Scans.{added-all}
+
+-- a loop that writes a list from the front: what is to come is x and then rest, and x is written
+pub write-step : {X : Type 0} (out : List X) (i : ℕ) (x : X) (now rest goal : List X) → i < length out → now ≡ x ∷ rest → take i out ++ now ≡ goal → take (i + 1) (set out i x) ++ rest ≡ goal
+write-step out i x now rest goal k e inv =
+    let t = take-more-set out i x k in
+    let a = append-assoc (take i out) (x ∷ []) rest in
+    cc
+
+pub write-end : {X : Type 0} (out : List X) (i : ℕ) (now goal : List X) → length out ≤ i → now ≡ [] → take i out ++ now ≡ goal → out ≡ goal
+write-end out i now goal k e inv =
+    let t = take-all i out k in
+    let a = append-nil out in
+    cc
+
+pub held-now : (mrt ran next i : ℕ) (flags : List Bool) (on : Bool) → i < length flags → on ≡ stays mrt ran (getD flags i false) → next ≡ cond on (ran + 1) 0
+    → heldFrom mrt ran (drop i flags) ≡ on ∷ heldFrom mrt next (drop (i + 1) flags)
+held-now mrt ran next i flags on h e n =
+    let d : heldFrom mrt ran (drop i flags) ≡ stays mrt ran (getD flags i false) ∷ heldFrom mrt (cond (stays mrt ran (getD flags i false)) (ran + 1) 0) (drop (i + 1) flags) = at-drop-more (heldFrom mrt ran) flags i false h in
+    cc
+
+-- the filling of gaps before period i: those left behind, then the one at hand and those to come
+abbrev pub Filling : ℕ → ℕ → List Stretch → List Stretch → Stretch → ℕ → ℕ → Type 0
+Filling below most ps out p left i = (out ++ fillFrom below left p (drop i ps) ≡ fill below most ps) × (length out < i) × (i ≤ length ps)
+
+fill-turn : (below left : ℕ) (p q : Stretch) (qs : List Stretch) (t : Bool) → t ≡ (ltb 0 left && ltb (gap p q) below)
+    → fillFrom below left p (q ∷ qs) ≡ listOf (cond t None (Some p)) ++ fillFrom below (cond t (left - 1) left) (cond t (join p q) q) qs
+fill-turn below left p q qs t e = ap (λ b. cond b (fillFrom below (left - 1) (join p q) qs) (p ∷ fillFrom below left q qs)) (sym e) ∙ split t
+  where
+    split : (b : Bool) → cond b (fillFrom below (left - 1) (join p q) qs) (p ∷ fillFrom below left q qs) ≡ listOf (cond b None (Some p)) ++ fillFrom below (cond b (left - 1) left) (cond b (join p q) q) qs
+    split true = refl
+    split false = refl
+
+pub one-fewer : (n : ℕ) (t : Bool) → n - boolByte t ≡ cond t (n - 1) n
+one-fewer n true = refl
+one-fewer n false = omega arith
+
+at-most-one : {X : Type 0} (o : Option X) → length (listOf o) ≤ 1
+at-most-one (Some x) = omega arith
+at-most-one None = omega arith
+
+module _ (below most : ℕ) (ps out out′ : List Stretch) (p d : Stretch) (left i : ℕ) (few : length ps ≤ 24) (inv : Filling below most ps out p left i) where
+  pub fill-more : (t : Bool) (o : Option Stretch) (p′ : Stretch) (left′ : ℕ) → i < length ps
+      → t ≡ (ltb 0 left && ltb (gap p (getD ps i d)) below) → o ≡ cond t None (Some p) → out′ ≡ added out o
+      → p′ ≡ cond t (join p (getD ps i d)) (getD ps i d) → left′ ≡ cond t (left - 1) left → Filling below most ps out′ p′ left′ (i + 1)
+  fill-more t o p′ left′ h test is f at n =
+      let one = at-most-one o in
+      let now : out′ ≡ out ++ listOf o = f ∙ added-all out o (omega arith) in
+      let turn = at-drop-more (fillFrom below left p) ps i d h ∙ fill-turn below left p (getD ps i d) (drop (i + 1) ps) t test in
+      let assoc = append-assoc out (listOf o) (fillFrom below left′ p′ (drop (i + 1) ps)) in
+      (cc, simp (now, length-append) (omega arith), omega arith)
+
+  pub fill-end : (o : Option Stretch) → length ps ≤ i → o ≡ Some p → out′ ≡ added out o → out′ ≡ fill below most ps
+  fill-end o h is f =
+      let one = at-most-one o in
+      let now : out′ ≡ out ++ listOf o = f ∙ added-all out o (omega arith) in
+      let last : fillFrom below left p (drop i ps) ≡ p ∷ [] = at-drop-all (fillFrom below left p) ps i h in
+      cc
+
+-- the search for the smallest gap before period i
+abbrev pub Sought : List Stretch → Option ℕ → Stretch → ℕ → Type 0
+Sought ps least p i = folded smaller least (gapsAfter p (drop i ps)) ≡ smallest (gaps ps)
+
+pub sought-more : (ps : List Stretch) (least least′ : Option ℕ) (p d : Stretch) (i : ℕ) → i < length ps → least′ ≡ smaller least (gap p (getD ps i d))
+    → Sought ps least p i → Sought ps least′ (getD ps i d) (i + 1)
+sought-more ps least least′ p d i h e inv =
+    let turn : folded smaller least (gapsAfter p (drop i ps)) ≡ folded smaller (smaller least (gap p (getD ps i d))) (gapsAfter (getD ps i d) (drop (i + 1) ps)) = at-drop-more (λ qs. folded smaller least (gapsAfter p qs)) ps i d h in
+    cc
+
+pub sought-end : (ps : List Stretch) (least : Option ℕ) (p : Stretch) (i : ℕ) → length ps ≤ i → Sought ps least p i → least ≡ smallest (gaps ps)
+sought-end ps least p i h inv = sym (at-drop-all (λ qs. folded smaller least (gapsAfter p qs)) ps i h) ∙ inv
+
+pub join-at : (ps ps′ ps″ rs : List Stretch) (g n : ℕ) → ps′ ≡ ps → ps″ ≡ ps → Some g ≡ smallest (gaps ps′) → n ≡ g → rs ≡ fill (n + 1) 1 ps″ → rs ≡ joined ps
+join-at ps ps′ ps″ rs g n e f s m r =
+    r ∙ (λ i. fill (m i + 1) 1 (f i)) ∙ ap (λ o. joinedAt o ps) (s ∙ ap (λ qs. smallest (gaps qs)) e)
+
+pub joins-step : (n k : ℕ) (ps next goal : List Stretch) → k < n → next ≡ joined ps → joins (n - k) ps ≡ goal → joins (n - (k + 1)) next ≡ goal
+joins-step n k ps next goal h e inv =
+    let m : n - k ≡ suc (n - (k + 1)) = omega arith in
+    ap (joins (n - (k + 1))) e ∙ sym (ap (λ (j : ℕ). joins j ps) m) ∙ inv

@@ -1,0 +1,6 @@
+use Rattle.tariff.specs.Stretches.{listed}
+use Rattle.tariff.proofs.Steps.{Filling}
+use Rattle.tariff.proofs.commitment.fill.Given as given
+
+abbrev pub Inv-loop-i : given.InvT-loop-i
+Inv-loop-i l = Filling (l .below) (l .most) (l .periods) (listed (l .out)) (l .current) (l .left) (l .i)

@@ -1,0 +1,166 @@
+ghost use mathlib.Core.Path.{_≡_};
+ghost use mathlib.Core.Bool.{cond, _&&_};
+ghost use Prim.Native.Nat.{_+_, _-_, _<_, _≤_};
+ghost use lib.Dec.{ltb};
+ghost use lib.ListN.{length};
+ghost use Rattle.std.specs.declared.option.Option.the-variants.{Some, None};
+ghost use Rattle.tariff.specs.Stretches.{listed, gap, gaps};
+ghost use Rattle.tariff.specs.CommitmentLaws.{SelfCommitted};
+ghost use Rattle.tariff.specs.Commitment.{flagged, flags, stays, held, join, fill, bridged, smaller, smallest, joined, limitOf, limited, periodsOf};
+use crate::day::Day;
+use crate::generator::Generator;
+use crate::records::HourRecord;
+use crate::stretch::Stretch;
+use crate::stretch::Stretches;
+use crate::stretch::gap;
+
+fn is_flagged(slot: Option<HourRecord>) -> bool
+    ensures { λ r. ⌜ r ≡ flagged slot ⌝ }
+{
+    HourRecord::counted(slot).self_schedule > 0
+}
+
+fn flags(slots: &[Option<HourRecord>; 24]) -> [bool; 24]
+    ensures { λ r. ⌜ r ≡ flags (now (slots .entry)) ⌝ }
+{
+    let mut out = [false; 24];
+    for i in 0..24 {
+        out[i] = is_flagged(slots[i]);
+    }
+    out
+}
+
+fn stays_on(mrt: u8, ran: u8, flag: bool) -> bool
+    ensures { λ r. ⌜ r ≡ stays mrt ran flag ⌝ }
+{
+    flag || (0 < ran && ran < mrt)
+}
+
+// Step 1: the hours that are flagged or held by minimum run time, counted from the hour in which their period began.
+fn held(flags: &[bool; 24], mrt: u8) -> [bool; 24]
+    ensures { λ r. ⌜ r ≡ held mrt (now (flags .entry)) ⌝ }
+{
+    let mut out = [false; 24];
+    let mut ran: u8 = 0;
+    for i in 0..24 {
+        let on = stays_on(mrt, ran, flags[i]);
+        out[i] = on;
+        ran = if on { ran + 1 } else { 0 };
+    }
+    out
+}
+
+fn is_filled(below: usize, most: usize, p: Stretch, q: Stretch) -> bool
+    ensures { λ r. ⌜ r ≡ (ltb 0 most && ltb (gap p q) below) ⌝ }
+{
+    0 < most && usize::from(gap(p, q)) < below
+}
+
+fn left_behind(filled: bool, p: Stretch) -> Option<Stretch>
+    ensures { λ r. ⌜ r ≡ cond filled None (Some p) ⌝ }
+{
+    if filled { None } else { Some(p) }
+}
+
+fn taken_on(filled: bool, p: Stretch, q: Stretch) -> Stretch
+    ensures { λ r. ⌜ r ≡ cond filled (join p q) q ⌝ }
+{
+    if filled { Stretch { first: p.first, last: q.last } } else { q }
+}
+
+// The first `most` gaps of fewer than `below` hours are filled.
+fn fill(periods: &[Stretch], below: usize, most: usize) -> Stretches
+    requires { ⌜ length (now periods) ≤ 24 ⌝ }
+    ensures { λ r. ⌜ listed r ≡ fill below most (now (periods .entry)) ⌝ }
+{
+    let mut out = Stretches::none();
+    if periods.is_empty() {
+        return out;
+    }
+    let mut current = periods[0];
+    let mut left = most;
+    for i in 1..periods.len() {
+        let next = periods[i];
+        let filled = is_filled(below, left, current, next);
+        out.add(left_behind(filled, current));
+        current = taken_on(filled, current, next);
+        left = left.saturating_sub(usize::from(filled));
+    }
+    out.add(Some(current));
+    out
+}
+
+fn smaller_of(least: Option<u8>, gap: u8) -> Option<u8>
+    ensures { λ r. ⌜ r ≡ smaller least gap ⌝ }
+{
+    match least {
+        Some(least) if least <= gap => Some(least),
+        _ => Some(gap),
+    }
+}
+
+fn smallest_gap(periods: &[Stretch]) -> Option<u8>
+    ensures { λ r. ⌜ r ≡ smallest (gaps (now (periods .entry))) ⌝ }
+{
+    if periods.is_empty() {
+        return None;
+    }
+    let mut least = None;
+    let mut before = periods[0];
+    for i in 1..periods.len() {
+        let next = periods[i];
+        least = smaller_of(least, gap(before, next));
+        before = next;
+    }
+    least
+}
+
+// Step 2: each gap of fewer than `mdt` hours is filled.
+fn bridge(periods: &Stretches, mdt: u8) -> Stretches
+    ensures { λ r. ⌜ listed r ≡ bridged mdt (listed (now (periods .entry))) ⌝ }
+{
+    let periods = periods.as_slice();
+    fill(periods, usize::from(mdt), periods.len())
+}
+
+// One join: the first gap of at most the smallest one's hours is filled.
+fn join_smallest(periods: &Stretches) -> Stretches
+    ensures { λ r. ⌜ listed r ≡ joined (listed (now (periods .entry))) ⌝ }
+{
+    match smallest_gap(periods.as_slice()) {
+        None => *periods,
+        Some(least) => fill(periods.as_slice(), usize::from(least) + 1, 1),
+    }
+}
+
+fn limit_of(mds: u8, carried: bool, periods: &Stretches) -> usize
+    ensures { λ r. ⌜ r ≡ limitOf mds carried (listed (now (periods .entry))) ⌝ }
+{
+    let mds = usize::from(mds);
+    if carried && periods.cover(1) { mds + 1 } else { mds }
+}
+
+// Step 3: joins, as many as there are periods above the limit, since each leaves one fewer.
+fn join_down(periods: &Stretches, limit: usize) -> Stretches
+    ensures { λ r. ⌜ listed r ≡ limited limit (listed (now (periods .entry))) ⌝ }
+{
+    let mut periods = *periods;
+    let surplus = periods.as_slice().len().saturating_sub(limit);
+    for _k in 0..surplus {
+        periods = join_smallest(&periods);
+    }
+    periods
+}
+
+impl Generator {
+    // The self-commitment periods of a day.
+    pub fn periods(&self, day: &Day<HourRecord>) -> Stretches
+        ensures value { λ r. ⌜ listed r ≡ periodsOf (now (self .entry)) (now (day .entry) .slots) ⌝ }
+        ensures law { λ _. ⌜ SelfCommitted (now (self .entry) .mrt) (now (self .entry) .mdt) (now (self .entry) .mds) (now (self .entry) .«carried_in») (flags (now (day .entry) .slots)) ⌝ }
+    {
+        let held = Stretches::of(&held(&flags(&day.slots), self.mrt));
+        let bridged = bridge(&held, self.mdt);
+        let limit = limit_of(self.mds, self.carried_in, &bridged);
+        join_down(&bridged, limit)
+    }
+}
