@@ -24,6 +24,12 @@ abs-mul (negsuc a) (negsuc b) = refl
 pub abs-mul-le : (a b : ℤ) (m n : ℕ) → natAbs a ≤ m → natAbs b ≤ n → natAbs (a *ℤ b) ≤ m * n
 abs-mul-le a b m n h k = subst (λ z. z ≤ m * n) (sym (abs-mul a b)) (mul-le _ _ m n h k)
 
+pub abs-add-le : (x y : ℤ) → natAbs (x +ℤ y) ≤ natAbs x + natAbs y
+abs-add-le (pos a) (pos b) = omega arith
+abs-add-le (pos a) (negsuc b) = grind arith
+abs-add-le (negsuc a) (pos b) = grind arith
+abs-add-le (negsuc a) (negsuc b) = omega arith
+
 mag-le : (z : ℤ) → mag z ≤ natAbs z
 mag-le (pos n) = omega arith
 mag-le (negsuc n) = omega arith
@@ -31,16 +37,26 @@ mag-le (negsuc n) = omega arith
 pub fits-abs : (w : Width) (z : ℤ) → natAbs z < 2 ^ hbits w → SFits w z
 fits-abs w z h = record { sfits = omega (arith, mag-le z) }
 
-abs-fits32 : (z : ℤ) → SFits w32 z → natAbs z ≤ 2 ^ 31
+pub abs-fits32 : (z : ℤ) → SFits w32 z → natAbs z ≤ 2 ^ 31
 abs-fits32 (pos n) f = omega (arith, f .sfits)
 abs-fits32 (negsuc n) f = omega (arith, f .sfits)
 
-fits-product : (a b : ℤ) → SFits w32 a → SFits w32 b → SFits w64 (a *ℤ b)
-fits-product a b f g = fits-abs w64 (a *ℤ b) (omega (arith, abs-mul-le a b (2 ^ 31) (2 ^ 31) (abs-fits32 a f) (abs-fits32 b g)))
+-- a number of 32 bits, signed or not, times a signed one
+fits-product : (a b : ℤ) → natAbs a < 2 ^ 32 → SFits w32 b → SFits w64 (a *ℤ b)
+fits-product a b h g = fits-abs w64 (a *ℤ b) (omega (arith, abs-mul-le a b 4294967295 (2 ^ 31) (omega arith) (abs-fits32 b g)))
 
-pub read-product : (a b x y : ℤ) → SFits w32 a → SFits w32 b → x ≡ toZ w32 (ofZ w32 a) → y ≡ toZ w32 (ofZ w32 b) → toZ w64 (ofZ w64 (toZ w64 (ofZ w64 x) *ℤ toZ w64 (ofZ w64 y))) ≡ a *ℤ b
-read-product a b x y f g e k =
-    let p = fits-product a b f g in
-    let f′ : SFits w64 a = sfits-widen tt f in
-    let g′ : SFits w64 b = sfits-widen tt g in
-    simp (e, k, toZ-ofZ)
+-- such a product as it is read back from its bits
+module _ (a b x y : ℤ) (e : x ≡ a) (k : y ≡ b) (f : natAbs a < 2 ^ 32) (g : SFits w32 b) where
+  pub product-fits : SFits w64 (toZ w64 (ofZ w64 x) *ℤ toZ w64 (ofZ w64 y))
+  product-fits =
+      let p = fits-product a b f g in
+      let f′ : SFits w64 a = fits-abs w64 a (omega arith) in
+      let g′ : SFits w64 b = sfits-widen tt g in
+      simp (e, k, toZ-ofZ) p
+
+  pub product-is : toZ w64 (ofZ w64 (toZ w64 (ofZ w64 x) *ℤ toZ w64 (ofZ w64 y))) ≡ a *ℤ b
+  product-is =
+      let p = fits-product a b f g in
+      let f′ : SFits w64 a = fits-abs w64 a (omega arith) in
+      let g′ : SFits w64 b = sfits-widen tt g in
+      simp (e, k, toZ-ofZ)

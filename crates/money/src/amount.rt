@@ -1,5 +1,5 @@
 ghost use mathlib.Core.Path.{_≡_};
-ghost use lib.IntN.{_*ℤ_};
+ghost use lib.IntN.{pos, _*ℤ_};
 ghost use Rattle.money.specs.Rounding.{rounded, Nearest};
 
 // Thousandths of a cent to the nearest cent, a half going away from zero.
@@ -11,9 +11,16 @@ pub fn round_cents(thousandths: i64) -> i64
     if thousandths < 0 { -cents } else { cents }
 }
 
-// Energy at a price, in thousandths of a cent. Any two i32 have a product within i64.
+// Energy at a price, in thousandths of a cent. Any two such numbers have a product within i64.
 pub fn product(kwh: i32, price: i32) -> i64
     ensures { λ r. ⌜ r ≡ kwh *ℤ price ⌝ }
+{
+    i64::from(kwh) * i64::from(price)
+}
+
+// The same of energy that is not signed.
+pub fn cost(kwh: u32, price: i32) -> i64
+    ensures { λ r. ⌜ r ≡ pos kwh *ℤ price ⌝ }
 {
     i64::from(kwh) * i64::from(price)
 }

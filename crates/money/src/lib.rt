@@ -2,5 +2,6 @@
 
 mod amount;
 
+pub use amount::cost;
 pub use amount::product;
 pub use amount::round_cents;

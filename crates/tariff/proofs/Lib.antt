@@ -7,3 +7,4 @@ pub mod Runs
 pub mod Fills
 pub mod Joins
 pub mod Commits
+pub mod Areas

@@ -3,6 +3,7 @@ pub mod Ranges
 pub mod Days
 pub mod Records
 pub mod Generators
+pub mod Bids
 pub mod Stretches
 pub mod Commitment
 pub mod CommitmentLaws

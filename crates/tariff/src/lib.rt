@@ -1,3 +1,4 @@
+mod bid;
 mod commitment;
 mod day;
 mod generator;
