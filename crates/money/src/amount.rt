@@ -1,5 +1,6 @@
 ghost use mathlib.Core.Path.{_≡_};
 ghost use lib.IntN.{pos, _*ℤ_};
+ghost use Rattle.money.specs.Amounts.{orZero};
 ghost use Rattle.money.specs.Rounding.{rounded, Nearest};
 
 // Thousandths of a cent to the nearest cent, a half going away from zero.
@@ -23,4 +24,11 @@ pub fn cost(kwh: u32, price: i32) -> i64
     ensures { λ r. ⌜ r ≡ pos kwh *ℤ price ⌝ }
 {
     i64::from(kwh) * i64::from(price)
+}
+
+// The amount, or nothing where it is below zero.
+pub fn or_zero(amount: i64) -> u64
+    ensures { λ r. ⌜ r ≡ orZero amount ⌝ }
+{
+    if amount < 0 { 0 } else { amount as u64 }
 }

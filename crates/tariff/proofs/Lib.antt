@@ -8,3 +8,6 @@ pub mod Fills
 pub mod Joins
 pub mod Commits
 pub mod Areas
+pub mod Sizes
+pub mod Sums
+pub mod Uplifts

@@ -1,19 +1,26 @@
--- The loops of self-commitment, turn by turn.
+-- The loops of a day, turn by turn.
 use mathlib.Core.Path.{_≡_, refl, sym, ap, _∙_}
-use mathlib.Core.Bool.{Bool, true, false, cond, _&&_}
-use mathlib.Core.List.{List, [], _∷_, _++_, append-assoc, append-nil}
+use mathlib.Core.Bool.{Bool, true, false, cond, _&&_, _||_}
+use mathlib.Core.List.{List, [], _∷_, _++_, map, append-assoc, append-nil}
 use Prim.Native.Nat.{ℕ, suc, _+_, _-_, _<_, _≤_}
 use native.Mathlib.Omega.{arith}
-use lib.Dec.{ltb}
+use lib.Dec.{ltb, leb}
 use lib.ListN.{length, getD, set, take, drop, length-append}
 use mir.Val.{boolByte}
 use Rattle.std.specs.Iters.{folded}
 use Rattle.std.specs.Vec.{listOf}
+use Rattle.std.specs.shelf.Lists.{countBy}
 use Rattle.std.specs.declared.option.Option.{Option}
 use Rattle.std.specs.declared.option.Option.the-variants.{Some, None}
+use Rattle.std.proofs.shelf.Sums.{sumBy-more}
+use Rattle.std.proofs.shelf.Tests.{cond-both}
 use Rattle.std.proofs.shelf.Lists.{take-more-set, take-all, at-drop-more, at-drop-all}
+use Rattle.tariff.specs.declared.cost.HourKind.{HourKind}
+use Rattle.tariff.specs.declared.records.HourRecord.{HourRecord}
 use Rattle.tariff.specs.declared.stretch.Stretch.{Stretch}
-use Rattle.tariff.specs.Stretches.{added, gap, gapsAfter, gaps}
+use Rattle.tariff.specs.Costs.{kindOf, kindsFrom, isSelfCommitted, selfIn}
+use Rattle.tariff.specs.Days.{counted}
+use Rattle.tariff.specs.Stretches.{added, covers, gap, gapsAfter, gaps}
 use Rattle.tariff.specs.Commitment.{stays, heldFrom, join, fillFrom, fill, smaller, smallest, joinedAt, joined, joins}
 use Rattle.tariff.proofs.Scans.{added-all}
 
@@ -30,11 +37,51 @@ write-end out i now goal k e inv =
     let a = append-nil out in
     cc
 
+pub map-now : {X Y : Type 0} (f : X → Y) (xs : List X) (i : ℕ) (d : X) (y : Y) → i < length xs → y ≡ f (getD xs i d) → map f (drop i xs) ≡ y ∷ map f (drop (i + 1) xs)
+map-now f xs i d y h e = at-drop-more (map f) xs i d h ∙ ap (λ z. z ∷ map f (drop (i + 1) xs)) (sym e)
+
 pub held-now : (mrt ran next i : ℕ) (flags : List Bool) (on : Bool) → i < length flags → on ≡ stays mrt ran (getD flags i false) → next ≡ cond on (ran + 1) 0
     → heldFrom mrt ran (drop i flags) ≡ on ∷ heldFrom mrt next (drop (i + 1) flags)
 held-now mrt ran next i flags on h e n =
     let d : heldFrom mrt ran (drop i flags) ≡ stays mrt ran (getD flags i false) ∷ heldFrom mrt (cond (stays mrt ran (getD flags i false)) (ran + 1) 0) (drop (i + 1) flags) = at-drop-more (heldFrom mrt ran) flags i false h in
     cc
+
+pub kind-now : (periods : List Stretch) (slots : List (Option HourRecord)) (i : ℕ) (d : Option HourRecord) (k : HourKind) → i < length slots
+    → k ≡ kindOf (covers periods (i + 1)) (counted (getD slots i d) .committed)
+    → kindsFrom (i + 1) periods (drop i slots) ≡ k ∷ kindsFrom (i + 1 + 1) periods (drop (i + 1) slots)
+kind-now periods slots i d k h e = at-drop-more (kindsFrom (i + 1) periods) slots i d h ∙ ap (λ z. z ∷ kindsFrom (i + 1 + 1) periods (drop (i + 1) slots)) (sym e)
+
+-- the search of a run for a self-committed hour, before hour i + 1
+abbrev pub Unseen : Stretch → List HourKind → ℕ → Type 0
+Unseen run ks i = selfIn run (i + 1) (drop i ks) ≡ selfIn run 1 ks
+
+module _ (run : Stretch) (ks : List HourKind) (i : ℕ) (d : HourKind) (h : i < length ks) (inv : Unseen run ks i) where
+  abbrev here : Bool
+  here = (leb (run .first) (i + 1) && leb (i + 1) (run .last)) && isSelfCommitted (getD ks i d)
+
+  turn : selfIn run 1 ks ≡ here || selfIn run (i + 1 + 1) (drop (i + 1) ks)
+  turn = sym inv ∙ at-drop-more (selfIn run (i + 1)) ks i d h
+
+  pub unseen-more : here ≡ false → Unseen run ks (i + 1)
+  unseen-more e = sym (turn ∙ ap (λ b. b || selfIn run (i + 1 + 1) (drop (i + 1) ks)) e)
+
+  pub seen-now : here ≡ true → selfIn run 1 ks ≡ true
+  seen-now e = turn ∙ ap (λ b. b || selfIn run (i + 1 + 1) (drop (i + 1) ks)) e
+
+pub unseen-end : (run : Stretch) (ks : List HourKind) (i : ℕ) → length ks ≤ i → Unseen run ks i → selfIn run 1 ks ≡ false
+unseen-end run ks i h inv = sym inv ∙ at-drop-all (selfIn run (i + 1)) ks i h
+
+-- counting: one more where the test holds
+byte-is : (t : Bool) → boolByte t ≡ cond t 1 0
+byte-is true = refl
+byte-is false = refl
+
+pub count-more : {X : Type 0} (p : X → Bool) (xs : List X) (i : ℕ) (d : X) (count n : ℕ) (t : Bool) → i < length xs → n ≡ boolByte t → t ≡ p (getD xs i d)
+    → (count ≡ countBy p (take i xs)) × (count ≤ i) → (count + n ≡ countBy p (take (i + 1) xs)) × (count + n ≤ i + 1)
+count-more p xs i d count n t h e test inv =
+    let more = sumBy-more (λ x. cond (p x) 1 0) xs i d h in
+    let one : n ≡ cond (p (getD xs i d)) 1 0 = e ∙ byte-is t ∙ ap (λ b. cond b 1 0) test in
+    (omega arith, cond-both (p (getD xs i d)) 1 0 (λ m. n ≡ m → count + n ≤ i + 1) (λ _ k. omega arith) (λ _ k. omega arith) one)
 
 -- the filling of gaps before period i: those left behind, then the one at hand and those to come
 abbrev pub Filling : ℕ → ℕ → List Stretch → List Stretch → Stretch → ℕ → ℕ → Type 0

@@ -5,13 +5,13 @@
 --   placed    the slots with one of them changed
 --   zeros     the record that an hour without one counts as
 --   counted   the record that an hour counts as; priceOr0 the same of a price
+--   overDay   the sum over the twenty-four hours
 use mathlib.Core.Path.{_≡_}
-use mathlib.Core.Bool.{true}
 use mathlib.Core.List.{List, [], _∷_}
-use mathlib.Core.Bool.{false}
-use Prim.Native.Nat.{ℕ, _-_}
+use mathlib.Core.Bool.{true, false}
+use Prim.Native.Nat.{ℕ, zero, suc, _-_}
 use native.Mathlib.Omega.{arith}
-use lib.IntN.{ℤ, pos, natAbs}
+use lib.IntN.{ℤ, pos, natAbs, _+ℤ_}
 use lib.ListN.{getD, set}
 use Rattle.std.specs.declared.option.Option.{Option}
 use Rattle.std.specs.declared.option.Option.the-variants.{Some, None}
@@ -56,3 +56,17 @@ noPrice = record { «day_ahead» = pos 0; «real_time» = pos 0; bounds = (omega
 abbrev pub priceOr0 : Option Price → Price
 priceOr0 (Some p) = p
 priceOr0 None = noPrice
+
+unfoldable pub overHours : (ℕ → ℤ) → ℕ → ℤ
+overHours f zero = pos 0
+overHours f (suc n) = overHours f n +ℤ f n
+
+abbrev pub overDay : (ℕ → ℤ) → ℤ
+overDay f = overHours f 24
+
+-- the record and the price of the hour that follows the first i
+abbrev pub recordAt : List (Option HourRecord) → ℕ → HourRecord
+recordAt slots i = counted (getD slots i None)
+
+abbrev pub priceAt : List (Option Price) → ℕ → Price
+priceAt prices i = priceOr0 (getD prices i None)

@@ -7,3 +7,4 @@ pub mod Bids
 pub mod Stretches
 pub mod Commitment
 pub mod CommitmentLaws
+pub mod Costs

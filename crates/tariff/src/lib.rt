@@ -1,5 +1,6 @@
 mod bid;
 mod commitment;
+mod cost;
 mod day;
 mod generator;
 mod range;

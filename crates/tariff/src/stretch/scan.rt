@@ -9,7 +9,8 @@ use super::Stretch;
 use super::Stretches;
 
 impl Stretch {
-    fn has(&self, hour: u8) -> bool
+    // Whether the hour is among them.
+    pub fn has(&self, hour: u8) -> bool
         ensures { λ r. ⌜ r ≡ (leb (now (self .entry) .first) hour && leb hour (now (self .entry) .last)) ⌝ }
     {
         self.first <= hour && hour <= self.last

@@ -1,0 +1,5 @@
+use Rattle.tariff.proofs.Steps.{Unseen}
+use Rattle.tariff.proofs.cost.account.self_in.Given as given
+
+abbrev pub Inv-loop-i : given.InvT-loop-i
+Inv-loop-i l = Unseen (l .run) (l .kinds) (l .i)

@@ -1,0 +1,12 @@
+mod account;
+mod hourly;
+
+// What an hour is to a generator.
+#[derive(Clone, Copy, PartialEq, Eq, Debug)]
+pub enum HourKind {
+    Off,
+    // on by the pool's commitment
+    Committed,
+    // on by the generator's own schedule
+    SelfCommitted,
+}
