@@ -10,9 +10,13 @@ use mir.Facts.{sfits-widen}
 use Rattle.std.proofs.shelf.Signed.{toZ-ofZ}
 use Rattle.std.proofs.shelf.Bits.{mul-le}
 
-abs-neg : (n : ℕ) → natAbs (negℤ (pos n)) ≡ n
+pub abs-neg : (n : ℕ) → natAbs (negℤ (pos n)) ≡ n
 abs-neg zero = refl
 abs-neg (suc n) = refl
+
+pub abs-negℤ : (z : ℤ) → natAbs (negℤ z) ≡ natAbs z
+abs-negℤ (pos n) = abs-neg n
+abs-negℤ (negsuc n) = refl
 
 pub abs-mul : (a b : ℤ) → natAbs (a *ℤ b) ≡ natAbs a * natAbs b
 abs-mul (pos a) (pos b) = refl

@@ -11,7 +11,7 @@ use Rattle.tariff.specs.declared.stretch.Stretch.{Stretch}
 use Rattle.tariff.specs.Stretches.{covers}
 use Rattle.tariff.specs.Commitment.{limitOf, afterMrt, afterMdt, joins}
 use Rattle.tariff.specs.CommitmentLaws.{In, Flagged, HeldOn, Between, JoinedDown, SelfCommitted}
-use Rattle.tariff.proofs.Runs.{held-rising, flagged-held, held-explained, held-long}
+use Rattle.tariff.proofs.Holding.{held-rising, flagged-held, held-explained, held-long}
 use Rattle.tariff.proofs.Fills.{Fills, fill-fills, fills-rising, fills-in, fills-reach, bridged-apart}
 use Rattle.tariff.proofs.Joins.{joins-down, down-few, joins-in, joins-reach}
 

@@ -13,7 +13,7 @@ use Rattle.tariff.specs.declared.stretch.Stretch.{Stretch}
 use Rattle.tariff.specs.Stretches.{gap, gaps, gapsAfter}
 use Rattle.tariff.specs.Commitment.{join, fillFrom, fill, bridged}
 use Rattle.tariff.specs.CommitmentLaws.{Within, In, Between, BetweenAfter}
-use Rattle.tariff.proofs.Runs.{Rising}
+use Rattle.tariff.proofs.Holding.{Rising}
 
 -- some neighbours are joined, over gaps that `Filled` holds of
 pub data Fills (Filled : ℕ → Type 0) : List Stretch → List Stretch → Type 0 where

@@ -15,7 +15,7 @@ use Rattle.tariff.specs.declared.stretch.Stretch.{Stretch}
 use Rattle.tariff.specs.Stretches.{gap, gaps, gapsAfter}
 use Rattle.tariff.specs.Commitment.{join, fillFrom, fill, smaller, joined, joinedAt, joins}
 use Rattle.tariff.specs.CommitmentLaws.{In, Joined, JoinedDown, few-enough, too-many}
-use Rattle.tariff.proofs.Runs.{Rising}
+use Rattle.tariff.proofs.Holding.{Rising}
 use Rattle.tariff.proofs.Fills.{Fills, empty, single, fill-fills, fills-rising, fills-in, AnySize, Reach, fills-reach}
 
 -- g is no larger than any of the numbers, and one of them is no larger than g

@@ -3,7 +3,7 @@ pub mod Made
 pub mod Forms
 pub mod Scans
 pub mod Steps
-pub mod Runs
+pub mod Holding
 pub mod Fills
 pub mod Joins
 pub mod Commits

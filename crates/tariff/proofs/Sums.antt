@@ -1,4 +1,4 @@
--- A sum over the hours of a day, hour by hour.
+-- Sums over the hours of a day, hour by hour.
 use mathlib.Core.Path.{_≡_, refl, sym, ap, subst, _∙_}
 use Prim.Native.Nat.{ℕ, suc, _+_, _*_, _≤_}
 use native.Mathlib.Nat.{mul-add, mul-one}
@@ -8,7 +8,7 @@ use lib.IntN.{ℤ, pos, natAbs, _+ℤ_}
 use mir.Syntax.{w64}
 use mir.Val.{SFits, toZ, ofZ}
 use Rattle.std.proofs.shelf.Signed.{ints, toZ-ofZ}
-use Rattle.tariff.specs.Days.{overHours, overDay}
+use Rattle.tariff.specs.Days.{overHours, overDay, addHours, addDay}
 
 -- the first i hours are added up, each within n
 abbrev pub Summed : (ℕ → ℤ) → ℕ → ℤ → ℕ → Type 0
@@ -33,3 +33,21 @@ sum-more f n total r x i fit fit′ e b is small inv =
     let part = ap natAbs same in
     let room : n * (i + 1) ≡ n * i + n = mul-add n i 1 ∙ ap (λ m. n * i + m) (mul-one n) in
     (cc, omega arith)
+
+-- quantities, each within n
+abbrev pub Added : (ℕ → ℕ) → ℕ → ℕ → ℕ → Type 0
+Added f n total i = (total ≡ addHours f i) × (total ≤ n * i)
+
+pub add-none : (f : ℕ → ℕ) (n : ℕ) → Added f n 0 0
+unfolding addHours
+add-none f n = (refl, omega arith)
+
+pub add-more : (f : ℕ → ℕ) (n total x i : ℕ) → x ≡ f i → x ≤ n → Added f n total i → Added f n (total + x) (i + 1)
+unfolding addHours
+add-more f n total x i is small inv =
+    let next = ap (addHours f) (add-one i) in
+    let room : n * (i + 1) ≡ n * i + n = mul-add n i 1 ∙ ap (λ m. n * i + m) (mul-one n) in
+    (cc, omega arith)
+
+pub add-all : (f : ℕ → ℕ) (n total i : ℕ) → i ≡ 24 → Added f n total i → (total ≡ addDay f) × (total ≤ n * 24)
+add-all f n total i e inv = (inv .0 ∙ ap (addHours f) e, subst (λ k. total ≤ n * k) e (inv .1))

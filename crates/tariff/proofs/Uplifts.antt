@@ -7,6 +7,7 @@ use lib.Signed.{_≤ℤ_}
 use Rattle.std.proofs.shelf.Signed.{ints}
 use Rattle.money.specs.Amounts.{orZero}
 use Rattle.money.specs.Rounding.{nearest, rounded}
+use Rattle.money.proofs.Rounds.{rounded-size, or-zero-size}
 use Rattle.tariff.specs.Costs.{Uplifted}
 
 nothing-below : (m : ℕ) → orZero (negℤ (pos m)) ≡ 0
@@ -28,5 +29,4 @@ uplifted cost earned = record {
 }
 
 pub uplift-size : (z : ℤ) (n : ℕ) → natAbs z ≤ 1000 * n → orZero (rounded z) ≤ n
-uplift-size (pos k) n h = omega arith
-uplift-size (negsuc k) n h = omega (arith, nothing-below (nearest (suc k)))
+uplift-size z n h = omega (arith, or-zero-size (rounded z), rounded-size z n h)

@@ -5,11 +5,11 @@
 --   placed    the slots with one of them changed
 --   zeros     the record that an hour without one counts as
 --   counted   the record that an hour counts as; priceOr0 the same of a price
---   overDay   the sum over the twenty-four hours
+--   overDay   the sum over the twenty-four hours; addDay the same of quantities
 use mathlib.Core.Path.{_≡_}
 use mathlib.Core.List.{List, [], _∷_}
 use mathlib.Core.Bool.{true, false}
-use Prim.Native.Nat.{ℕ, zero, suc, _-_}
+use Prim.Native.Nat.{ℕ, zero, suc, _+_, _-_}
 use native.Mathlib.Omega.{arith}
 use lib.IntN.{ℤ, pos, natAbs, _+ℤ_}
 use lib.ListN.{getD, set}
@@ -63,6 +63,14 @@ overHours f (suc n) = overHours f n +ℤ f n
 
 abbrev pub overDay : (ℕ → ℤ) → ℤ
 overDay f = overHours f 24
+
+-- the same of quantities
+unfoldable pub addHours : (ℕ → ℕ) → ℕ → ℕ
+addHours f zero = 0
+addHours f (suc n) = addHours f n + f n
+
+abbrev pub addDay : (ℕ → ℕ) → ℕ
+addDay f = addHours f 24
 
 -- the record and the price of the hour that follows the first i
 abbrev pub recordAt : List (Option HourRecord) → ℕ → HourRecord

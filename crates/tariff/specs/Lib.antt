@@ -8,3 +8,5 @@ pub mod Stretches
 pub mod Commitment
 pub mod CommitmentLaws
 pub mod Costs
+pub mod Energy
+pub mod Worked

@@ -1,0 +1,18 @@
+use mathlib.Core.Path.{refl}
+use Rattle.tariff.specs.Days.{overHours}
+use Rattle.tariff.proofs.worked.worked_cases.Needs as need
+
+pub returns : need.returns
+unfolding overHours
+returns c = record {
+  less-than-half-a-cent = refl;
+  half-a-cent = refl;
+  half-a-cent-owed = refl;
+  held-by-run-time = refl;
+  gap-of-down-time-kept = refl;
+  gap-below-down-time-filled = refl;
+  earliest-gap-joined = refl;
+  carried-in-period-not-counted = refl;
+  committed-for-two-hours = refl;
+  self-scheduled-in-the-first = refl;
+}
