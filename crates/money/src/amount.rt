@@ -23,7 +23,8 @@ pub fn product(kwh: i32, price: i32) -> i64
 pub fn cost(kwh: u32, price: i32) -> i64
     ensures { λ r. ⌜ r ≡ pos kwh *ℤ price ⌝ }
 {
-    i64::from(kwh) * i64::from(price)
+    let quantity = i64::from(kwh);
+    quantity * i64::from(price)
 }
 
 // The amount, or nothing where it is below zero.

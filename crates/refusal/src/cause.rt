@@ -1,12 +1,12 @@
 ghost use mathlib.Core.Path.{_≡_};
 ghost use Rattle.refusal.specs.Refusals.{numberOf, aOf, bOf};
 use crate::kinds::Kind;
-use crate::kinds::Pot;
-use crate::kinds::Store;
 use crate::kinds::KindDebug;
 use crate::kinds::KindPartialEq;
+use crate::kinds::Pot;
 use crate::kinds::PotDebug;
 use crate::kinds::PotPartialEq;
+use crate::kinds::Store;
 use crate::kinds::StoreDebug;
 use crate::kinds::StorePartialEq;
 

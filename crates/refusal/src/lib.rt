@@ -1,8 +1,11 @@
 // What a refused call answers: the cause as a case with its values, and the number and two details it is printed by.
 
-mod kinds;
 mod cause;
+mod kinds;
 
+pub use cause::Refusal;
+pub use cause::RefusalDebug;
+pub use cause::RefusalPartialEq;
 pub use kinds::Kind;
 pub use kinds::KindDebug;
 pub use kinds::KindPartialEq;
@@ -12,6 +15,3 @@ pub use kinds::PotPartialEq;
 pub use kinds::Store;
 pub use kinds::StoreDebug;
 pub use kinds::StorePartialEq;
-pub use cause::Refusal;
-pub use cause::RefusalDebug;
-pub use cause::RefusalPartialEq;

@@ -36,16 +36,16 @@ module _ (b : EnergyBid) (v n : ℕ) where
       let z = v + n - max (b .u2) v in
       ⊎-elim
       (λ low. area-at b v (v + suc n) (suc x) y z (omega arith) (omega arith) (omega arith)
-        ∙ first-more x y z (b .b1) (b .b2) (b .b3)
-        ∙ ap (λ p. area b v (v + n) +ℤ p) (sym (cond-true _ _ _ (lt-ltb _ _ low))))
+      ∙ first-more x y z (b .b1) (b .b2) (b .b3)
+      ∙ ap (λ p. area b v (v + n) +ℤ p) (sym (cond-true _ _ _ (lt-ltb _ _ low))))
       (λ past. ⊎-elim
-        (λ mid. area-at b v (v + suc n) x (suc y) z (omega arith) (omega arith) (omega arith)
-          ∙ second-more x y z (b .b1) (b .b2) (b .b3)
-          ∙ ap (λ p. area b v (v + n) +ℤ p) (sym (cond-false _ _ _ (le-ltb _ _ past) ∙ cond-true _ _ _ (lt-ltb _ _ mid))))
-        (λ high. area-at b v (v + suc n) x y (suc z) (omega arith) (omega arith) (omega arith)
-          ∙ third-more x y z (b .b1) (b .b2) (b .b3)
-          ∙ ap (λ p. area b v (v + n) +ℤ p) (sym (cond-false _ _ _ (le-ltb _ _ past) ∙ cond-false _ _ _ (le-ltb _ _ high))))
-        (cases-lt (v + n) (b .u2)))
+      (λ mid. area-at b v (v + suc n) x (suc y) z (omega arith) (omega arith) (omega arith)
+      ∙ second-more x y z (b .b1) (b .b2) (b .b3)
+      ∙ ap (λ p. area b v (v + n) +ℤ p) (sym (cond-false _ _ _ (le-ltb _ _ past) ∙ cond-true _ _ _ (lt-ltb _ _ mid))))
+      (λ high. area-at b v (v + suc n) x y (suc z) (omega arith) (omega arith) (omega arith)
+      ∙ third-more x y z (b .b1) (b .b2) (b .b3)
+      ∙ ap (λ p. area b v (v + n) +ℤ p) (sym (cond-false _ _ _ (le-ltb _ _ past) ∙ cond-false _ _ _ (le-ltb _ _ high))))
+      (cases-lt (v + n) (b .u2)))
       (cases-lt (v + n) (b .u1))
 
 nothing : (b : EnergyBid) (v d : ℕ) → d ≤ v → area b v d ≡ pos 0

@@ -12,7 +12,7 @@ use Rattle.tariff.specs.Stretches.{covers}
 use Rattle.tariff.specs.Commitment.{limitOf, afterMrt, afterMdt, joins}
 use Rattle.tariff.specs.CommitmentLaws.{In, Flagged, HeldOn, Between, JoinedDown, SelfCommitted}
 use Rattle.tariff.proofs.Holding.{held-rising, flagged-held, held-explained, held-long}
-use Rattle.tariff.proofs.Fills.{Fills, fill-fills, fills-rising, fills-in, fills-reach, bridged-apart}
+use Rattle.tariff.proofs.Fills.{Fills, fills-rising, fills-in, fills-reach, bridged-fills, bridged-apart}
 use Rattle.tariff.proofs.Joins.{joins-down, down-few, joins-in, joins-reach}
 
 module _ (mrt mdt mds : ℕ) (carried : Bool) (flags : List Bool) where
@@ -30,7 +30,7 @@ module _ (mrt mdt mds : ℕ) (carried : Bool) (flags : List Bool) where
   surplus = length apart - limit
 
   bridges : Fills (λ g. g < mdt) held apart
-  bridges = fill-fills (λ g. g < mdt) mdt (λ _ lt. lt) (length held) held
+  bridges = bridged-fills mdt held
 
   belongs : (h : ℕ) → Flagged flags h → In (joins surplus apart) h
   belongs h f =

@@ -1,17 +1,17 @@
 -- Filling gaps: the periods stay in order, no hour is lost, and the hours gained lie in gaps that were filled.
 use mathlib.Core.Path.{_≡_}
-use mathlib.Core.Bool.{false, _&&_}
+use mathlib.Core.Bool.{Bool, true}
 use mathlib.Core.List.{List, [], _∷_}
 use mathlib.Core.Logic.{_⊎_, inl, inr, ⊎-elim}
-use Prim.Native.Nat.{ℕ, _-_, _<_, _≤_}
+use Prim.Native.Nat.{ℕ, _+_, _<_, _≤_}
 use native.Mathlib.Omega.{arith}
 use lib.Dec.{ltb}
-use lib.ListN.{length}
 use Rattle.std.specs.shelf.Lists.{All}
-use Rattle.std.proofs.shelf.Tests.{cases-lt, cond-both, and-parts, and-cases, ltb-true, ltb-false}
+use Rattle.std.proofs.shelf.Tests.{cases-lt, cond-both, ltb-true, ltb-false}
+use Rattle.tariff.specs.declared.gaps.Choice.the-variants.{FewerThan}
 use Rattle.tariff.specs.declared.stretch.Stretch.{Stretch}
 use Rattle.tariff.specs.Stretches.{gap, gaps, gapsAfter}
-use Rattle.tariff.specs.Commitment.{join, fillFrom, fill, bridged}
+use Rattle.tariff.specs.Commitment.{join, fillFrom, fill, chosenBy, bridged}
 use Rattle.tariff.specs.CommitmentLaws.{Within, In, Between, BetweenAfter}
 use Rattle.tariff.proofs.Holding.{Rising}
 
@@ -22,17 +22,17 @@ pub data Fills (Filled : ℕ → Type 0) : List Stretch → List Stretch → Typ
   fills : {p q : Stretch} {qs rs : List Stretch} → Filled (gap p q) → Fills Filled (join p q ∷ qs) rs → Fills Filled (p ∷ (q ∷ qs)) rs
   leaves : {p q : Stretch} {qs rs : List Stretch} → Fills Filled (q ∷ qs) rs → Fills Filled (p ∷ (q ∷ qs)) (p ∷ rs)
 
-module _ (Filled : ℕ → Type 0) (below : ℕ) (filled : (g : ℕ) → g < below → Filled g) where
-  fillFrom-fills : (most : ℕ) (p : Stretch) (qs : List Stretch) → Fills Filled (p ∷ qs) (fillFrom below most p qs)
-  fillFrom-fills most p [] = single
-  fillFrom-fills most p (q ∷ qs) =
-      cond-both (ltb 0 most && ltb (gap p q) below) _ _ (Fills Filled (p ∷ (q ∷ qs)))
-      (λ e. fills (filled _ (ltb-true _ _ (and-parts _ _ e .1))) (fillFrom-fills (most - 1) (join p q) qs))
-      (λ _. leaves (fillFrom-fills most q qs))
+module _ (Filled : ℕ → Type 0) (chosen : ℕ → ℕ → Bool) (filled : (i g : ℕ) → chosen i g ≡ true → Filled g) where
+  fillFrom-fills : (i : ℕ) (p : Stretch) (qs : List Stretch) → Fills Filled (p ∷ qs) (fillFrom chosen i p qs)
+  fillFrom-fills i p [] = single
+  fillFrom-fills i p (q ∷ qs) =
+      cond-both (chosen i (gap p q)) _ _ (Fills Filled (p ∷ (q ∷ qs)))
+      (λ e. fills (filled i _ e) (fillFrom-fills (i + 1) (join p q) qs))
+      (λ _. leaves (fillFrom-fills (i + 1) q qs))
 
-  pub fill-fills : (most : ℕ) (ps : List Stretch) → Fills Filled ps (fill below most ps)
-  fill-fills most [] = empty
-  fill-fills most (p ∷ ps) = fillFrom-fills most p ps
+  pub fill-fills : (ps : List Stretch) → Fills Filled ps (fill chosen ps)
+  fill-fills [] = empty
+  fill-fills (p ∷ ps) = fillFrom-fills 0 p ps
 
 -- the periods stay in order, and no hour is lost
 rising-join : (low : ℕ) (p q : Stretch) (qs : List Stretch) → Rising low (p ∷ (q ∷ qs)) → Rising low (join p q ∷ qs)
@@ -105,20 +105,19 @@ module _ (Size : ℕ → Type 0) (h : ℕ) where
   fills-reach (leaves fs) (inr b) =
       ⊎-elim (λ now. inr (inl now)) (λ more. reach-after _ _ _ (fills-reach fs (inr more))) (between-after fs _ Size h b)
 
--- where as many gaps may be filled as there are, none is left that is to be filled
-not-filled : (below most g : ℕ) → 0 < most → (ltb 0 most && ltb g below) ≡ false → below ≤ g
-not-filled below most g l e =
-    ⊎-elim (λ z. absurd (omega (arith, ltb-false 0 most z))) (ltb-false g below) (and-cases (ltb 0 most) _ e)
+-- step 2 fills gaps of fewer than mdt hours, and leaves none of them
+module _ (mdt : ℕ) where
+  pub bridged-fills : (ps : List Stretch) → Fills (λ g. g < mdt) ps (bridged mdt ps)
+  bridged-fills = fill-fills (λ g. g < mdt) (chosenBy (FewerThan mdt)) (λ i g. ltb-true g mdt)
 
-module _ (below : ℕ) where
-  fillFrom-apart : (most : ℕ) (p : Stretch) (qs : List Stretch) → length qs ≤ most → All (λ g. below ≤ g) (gaps (fillFrom below most p qs))
-  fillFrom-apart most p [] l = tt
-  fillFrom-apart most p (q ∷ qs) l =
-      let fs = fillFrom-fills AnySize below (λ _ _. tt) most q qs in
-      cond-both (ltb 0 most && ltb (gap p q) below) _ _ (λ rs. All (λ g. below ≤ g) (gaps rs))
-      (λ _. fillFrom-apart (most - 1) (join p q) qs (omega arith))
-      (λ e. gaps-after fs p (λ g. below ≤ g) (not-filled below most _ (omega arith) e) (fillFrom-apart most q qs (omega arith)))
+  fillFrom-apart : (i : ℕ) (p : Stretch) (qs : List Stretch) → All (λ g. mdt ≤ g) (gaps (fillFrom (chosenBy (FewerThan mdt)) i p qs))
+  fillFrom-apart i p [] = tt
+  fillFrom-apart i p (q ∷ qs) =
+      let fs = fillFrom-fills AnySize (chosenBy (FewerThan mdt)) (λ _ _ _. tt) (i + 1) q qs in
+      cond-both (ltb (gap p q) mdt) _ _ (λ rs. All (λ g. mdt ≤ g) (gaps rs))
+      (λ _. fillFrom-apart (i + 1) (join p q) qs)
+      (λ e. gaps-after fs p (λ g. mdt ≤ g) (ltb-false _ _ e) (fillFrom-apart (i + 1) q qs))
 
-  pub bridged-apart : (ps : List Stretch) → All (λ g. below ≤ g) (gaps (bridged below ps))
+  pub bridged-apart : (ps : List Stretch) → All (λ g. mdt ≤ g) (gaps (bridged mdt ps))
   bridged-apart [] = tt
-  bridged-apart (p ∷ ps) = fillFrom-apart _ p ps (omega arith)
+  bridged-apart (p ∷ ps) = fillFrom-apart 0 p ps

@@ -45,8 +45,14 @@ numbersRead f = (
 module _ (f : GeneratorForm) (h : allFit (generatorFields f) ≡ true) where
   abbrev pub bounds : NumbersBounds (numbersOf f)
   bounds = let k = form-bounds f h in record {
-    prices = k .prices; rises = k .rises; steps = k .steps; costs = k .costs;
-    run = k .run; down = k .down; starts = k .starts; above = k .above;
+    prices = k .prices;
+    rises = k .rises;
+    steps = k .steps;
+    costs = k .costs;
+    run = k .run;
+    down = k .down;
+    starts = k .starts;
+    above = k .above;
   }
 
   pub numbers-read : numbersRead f ≡ numbersOf f

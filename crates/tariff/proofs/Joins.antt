@@ -1,103 +1,103 @@
 -- Step 3: each join is of the two periods with the smallest gap, the earliest on a tie, and joins are made while there are too many periods.
 use mathlib.Core.Path.{_≡_, refl, sym, ap, subst, _∙_}
 use mathlib.Core.List.{List, [], _∷_, _++_}
-use mathlib.Core.Logic.{_⊎_, inl, inr, ⊎-elim}
+use mathlib.Core.Logic.{_⊎_, inl, inr}
 use Prim.Native.Nat.{ℕ, zero, suc, _+_, _-_, _<_, _≤_}
 use native.Mathlib.Omega.{arith}
 use lib.Dec.{ltb}
 use lib.ListN.{length, length-append}
 use Rattle.std.specs.shelf.Lists.{All}
-use Rattle.std.specs.Iters.{folded}
 use Rattle.std.specs.declared.option.Option.the-variants.{Some}
-use Rattle.std.proofs.shelf.Tests.{cond-both, ltb-true, ltb-false}
-use Rattle.std.proofs.shelf.Elements.{all-weaker}
+use Rattle.std.proofs.shelf.Tests.{cond-both, ltb-true, ltb-false, eq-eqb, ne-eqb}
+use Rattle.tariff.specs.declared.gaps.Choice.the-variants.{Number}
+use Rattle.tariff.specs.declared.gaps.Gap.{Gap}
 use Rattle.tariff.specs.declared.stretch.Stretch.{Stretch}
 use Rattle.tariff.specs.Stretches.{gap, gaps, gapsAfter}
-use Rattle.tariff.specs.Commitment.{join, fillFrom, fill, smaller, joined, joinedAt, joins}
+use Rattle.tariff.specs.Commitment.{join, fillFrom, fill, chosenBy, smallestFrom, joined, joinedAt, joins}
 use Rattle.tariff.specs.CommitmentLaws.{In, Joined, JoinedDown, few-enough, too-many}
 use Rattle.tariff.proofs.Holding.{Rising}
 use Rattle.tariff.proofs.Fills.{Fills, empty, single, fill-fills, fills-rising, fills-in, AnySize, Reach, fills-reach}
 
--- g is no larger than any of the numbers, and one of them is no larger than g
-abbrev SomeUpTo : ℕ → List ℕ → Type 0
-SomeUpTo g [] = ⊥
-SomeUpTo g (x ∷ xs) = (x ≤ g) ⊎ SomeUpTo g xs
+-- g is f, and no gap of xs is smaller; or g is smaller than f, it has the position i or a later one, and `Later` holds
+abbrev Best : Gap → Gap → ℕ → List ℕ → Type 0 → Type 0
+Best g f i xs Later = ((g .at ≡ f .at) × (g .hours ≡ f .hours) × All (λ y. f .hours ≤ y) xs) ⊎ ((i ≤ g .at) × (g .hours < f .hours) × Later)
 
-abbrev Least : ℕ → List ℕ → Type 0
-Least g xs = All (λ x. g ≤ x) xs × SomeUpTo g xs
+-- g is the smallest gap, the earliest on a tie; the positions count from i
+abbrev Least : Gap → ℕ → List ℕ → Type 0
+Least g i [] = ⊥
+Least g i (x ∷ xs) = Best g (record { at = i; hours = x }) (i + 1) xs (Least g (i + 1) xs)
 
-least-larger-first : (g x y : ℕ) (xs : List ℕ) → y < x → Least g (y ∷ xs) → Least g (x ∷ (y ∷ xs))
-least-larger-first g x y xs lt l = ((omega arith, l .0), inr (l .1))
+best-next : (g f : Gap) (i x : ℕ) (xs : List ℕ) → x < f .hours → Least g i (x ∷ xs) → Best g f i (x ∷ xs) (Least g i (x ∷ xs))
+best-next g f i x xs lt l = inr (omega arith, omega arith, l)
 
-least-larger-next : (g x y : ℕ) (xs : List ℕ) → x ≤ y → Least g (x ∷ xs) → Least g (x ∷ (y ∷ xs))
-least-larger-next g x y xs le l = ((l .0 .0, (omega arith, l .0 .1)), ⊎-elim inl (λ s. inr (inr s)) (l .1))
+best-kept : (g f : Gap) (i x : ℕ) (xs : List ℕ) → f .hours ≤ x → Best g f (i + 1) xs (Least g (i + 1) xs) → Best g f i (x ∷ xs) (Least g i (x ∷ xs))
+best-kept g f i x xs le (inl kept) = inl (kept .0, kept .1, (le, kept .2))
+best-kept g f i x xs le (inr later) = inr (omega arith, later .1, inr (later .0, omega arith, later .2))
 
-least-below : (m g : ℕ) (xs : List ℕ) → All (λ x. m ≤ x) xs → SomeUpTo g xs → m ≤ g
-least-below m g [] all s = absurd s
-least-below m g (x ∷ xs) all (inl le) = omega arith
-least-below m g (x ∷ xs) all (inr s) = least-below m g xs (all .1) s
+smallest-best : (xs : List ℕ) (i : ℕ) (f : Gap) → (g : Gap) × (smallestFrom i (Some f) xs ≡ Some g) × Best g f i xs (Least g i xs)
+smallest-best [] i f = (f, refl, inl (refl, refl, tt))
+smallest-best (x ∷ xs) i f =
+    cond-both (ltb x (f .hours)) _ _ (λ o. (g : Gap) × (smallestFrom (i + 1) o xs ≡ Some g) × Best g f i (x ∷ xs) (Least g i (x ∷ xs)))
+    (λ e. let (g, same, b) = smallest-best xs (i + 1) (record { at = i; hours = x }) in (g, same, best-next g f i x xs (ltb-true x (f .hours) e) b))
+    (λ e. let (g, same, b) = smallest-best xs (i + 1) f in (g, same, best-kept g f i x xs (ltb-false x (f .hours) e) b))
 
-some-later : (g x : ℕ) (xs : List ℕ) → g < x → SomeUpTo g (x ∷ xs) → SomeUpTo g xs
-some-later g x xs lt = ⊎-elim (λ le. absurd (omega arith)) (λ s. s)
-
-smallest-least : (xs : List ℕ) (x : ℕ) → (g : ℕ) × (folded smaller (Some x) xs ≡ Some g) × Least g (x ∷ xs)
-smallest-least [] x = (x, refl, ((omega arith, tt), inl (omega arith)))
-smallest-least (y ∷ xs) x =
-    cond-both (ltb y x) (Some y) (Some x) (λ o. (g : ℕ) × (folded smaller o xs ≡ Some g) × Least g (x ∷ (y ∷ xs)))
-    (λ e. let (g, same, l) = smallest-least xs y in (g, same, least-larger-first g x y xs (ltb-true y x e) l))
-    (λ e. let (g, same, l) = smallest-least xs x in (g, same, least-larger-next g x y xs (ltb-false y x e) l))
-
--- the first gap of at most g hours is filled, and no other
-fill-none : (below : ℕ) (p : Stretch) (qs : List Stretch) → fillFrom below 0 p qs ≡ p ∷ qs
-fill-none below p [] = refl
-fill-none below p (q ∷ qs) = ap (λ rs. p ∷ rs) (fill-none below q qs)
+-- the gap at that position is filled, and no other
+fill-past : (at i : ℕ) (p : Stretch) (qs : List Stretch) → at < i → fillFrom (chosenBy (Number at)) i p qs ≡ p ∷ qs
+fill-past at i p [] l = refl
+fill-past at i p (q ∷ qs) l = rw (ne-eqb i at (λ e. omega arith)) (ap (λ rs. p ∷ rs) (fill-past at (i + 1) q qs (omega arith)))
 
 gaps-before : (p q a : Stretch) (before qs rest : List Stretch) → q ∷ qs ≡ before ++ (a ∷ rest) → gapsAfter p (before ++ (a ∷ [])) ≡ gap p q ∷ gaps (before ++ (a ∷ []))
 gaps-before p q a [] qs rest e = let same : a ≡ q = cc in ap (λ x. gap p x ∷ []) same
 gaps-before p q a (b ∷ bs) qs rest e = let same : b ≡ q = cc in ap (λ x. gap p x ∷ gapsAfter b (bs ++ (a ∷ []))) same
 
-join-now : (g : ℕ) (p q : Stretch) (qs : List Stretch) → gap p q ≤ g → All (λ x. g ≤ x) (gapsAfter p (q ∷ qs)) → Joined (p ∷ (q ∷ qs)) (fillFrom (g + 1) 0 (join p q) qs)
-join-now g p q qs small least = record {
-  before = [];
-  one = p;
-  next = q;
-  after = qs;
-  were = refl;
-  are = fill-none (g + 1) (join p q) qs;
-  smallest-gap = all-weaker (λ x. g ≤ x) (λ x. gap p q ≤ x) (λ x l. omega arith) (gapsAfter p (q ∷ qs)) least;
-  earliest-on-a-tie = tt;
-}
+-- a join that fills a gap of n hours
+abbrev JoinedOver : ℕ → List Stretch → List Stretch → Type 0
+JoinedOver n ps qs = (j : Joined ps qs) × (gap (j .one) (j .next) ≡ n)
 
-join-later : (g : ℕ) (p q : Stretch) (qs rs : List Stretch) → g < gap p q → SomeUpTo g (gapsAfter q qs) → Joined (q ∷ qs) rs → Joined (p ∷ (q ∷ qs)) (p ∷ rs)
-join-later g p q qs rs large some j =
-    let small = least-below (gap (j .one) (j .next)) g (gapsAfter q qs) (j .smallest-gap) some in
-    record {
-      before = p ∷ j .before;
-      one = j .one;
-      next = j .next;
-      after = j .after;
-      were = ap (λ xs. p ∷ xs) (j .were);
-      are = ap (λ xs. p ∷ xs) (j .are);
-      smallest-gap = (omega arith, j .smallest-gap);
-      earliest-on-a-tie = rw (gaps-before p q (j .one) (j .before) qs _ (j .were)) (omega arith, j .earliest-on-a-tie);
-    }
+join-now : (n : ℕ) (p q : Stretch) (qs rs : List Stretch) → n ≡ gap p q → All (λ x. gap p q ≤ x) (gapsAfter q qs) → rs ≡ join p q ∷ qs → JoinedOver n (p ∷ (q ∷ qs)) rs
+join-now n p q qs rs over least same = (
+  record {
+    before = [];
+    one = p;
+    next = q;
+    after = qs;
+    were = refl;
+    are = same;
+    smallest-gap = (omega arith, least);
+    earliest-on-a-tie = tt;
+  },
+  sym over,
+)
 
-first-join : (g : ℕ) (qs : List Stretch) (p : Stretch) → Least g (gapsAfter p qs) → Joined (p ∷ qs) (fillFrom (g + 1) 1 p qs)
-first-join g [] p l = absurd (l .1)
-first-join g (q ∷ qs) p l =
-    cond-both (ltb (gap p q) (g + 1)) _ _ (Joined (p ∷ (q ∷ qs)))
-    (λ e. join-now g p q qs (omega (arith, ltb-true (gap p q) (g + 1) e)) (l .0))
-    (λ e. let large : g < gap p q = omega (arith, ltb-false (gap p q) (g + 1) e) in
-    let some = some-later g (gap p q) (gapsAfter q qs) large (l .1) in
-    join-later g p q qs _ large some (first-join g qs q (l .0 .1, some)))
+join-later : (n : ℕ) (p q : Stretch) (qs rs : List Stretch) → n < gap p q → JoinedOver n (q ∷ qs) rs → JoinedOver n (p ∷ (q ∷ qs)) (p ∷ rs)
+join-later n p q qs rs large (j, over) = (
+  record {
+    before = p ∷ j .before;
+    one = j .one;
+    next = j .next;
+    after = j .after;
+    were = ap (λ xs. p ∷ xs) (j .were);
+    are = ap (λ xs. p ∷ xs) (j .are);
+    smallest-gap = (omega arith, j .smallest-gap);
+    earliest-on-a-tie = rw (gaps-before p q (j .one) (j .before) qs _ (j .were)) (omega arith, j .earliest-on-a-tie);
+  },
+  over,
+)
 
-joined-fill : (p q : Stretch) (qs : List Stretch) → (g : ℕ) × (joined (p ∷ (q ∷ qs)) ≡ fill (g + 1) 1 (p ∷ (q ∷ qs))) × Least g (gaps (p ∷ (q ∷ qs)))
-joined-fill p q qs = let (g, same, least) = smallest-least (gapsAfter q qs) (gap p q) in
+least-join : (g : Gap) (qs : List Stretch) (i : ℕ) (p : Stretch) → Least g i (gapsAfter p qs) → JoinedOver (g .hours) (p ∷ qs) (fillFrom (chosenBy (Number (g .at))) i p qs)
+least-join g [] i p l = absurd l
+least-join g (q ∷ qs) i p (inl now) =
+    rw (eq-eqb i (g .at) (sym (now .0))) (join-now (g .hours) p q qs _ (now .1) (now .2) (fill-past (g .at) (i + 1) (join p q) qs (omega arith)))
+least-join g (q ∷ qs) i p (inr later) =
+    rw (ne-eqb i (g .at) (λ e. omega arith)) (join-later (g .hours) p q qs _ (later .1) (least-join g qs (i + 1) q (later .2)))
+
+joined-fill : (p q : Stretch) (qs : List Stretch) → (g : Gap) × (joined (p ∷ (q ∷ qs)) ≡ fill (chosenBy (Number (g .at))) (p ∷ (q ∷ qs))) × Least g 0 (gaps (p ∷ (q ∷ qs)))
+joined-fill p q qs = let (g, same, least) = smallest-best (gapsAfter q qs) 1 (record { at = 0; hours = gap p q }) in
     (g, ap (λ o. joinedAt o (p ∷ (q ∷ qs))) same, least)
 
 joined-joins : (p q : Stretch) (qs : List Stretch) → Joined (p ∷ (q ∷ qs)) (joined (p ∷ (q ∷ qs)))
 joined-joins p q qs = let (g, same, least) = joined-fill p q qs in
-    subst (Joined (p ∷ (q ∷ qs))) (sym same) (first-join g (q ∷ qs) p least)
+    subst (Joined (p ∷ (q ∷ qs))) (sym same) (least-join g (q ∷ qs) 0 p least .0)
 
 -- each join leaves one period fewer, so that as many are made as there are periods too many
 joined-length : (ps qs : List Stretch) → Joined ps qs → length ps ≡ length qs + 1
@@ -124,7 +124,7 @@ joined-fills : (ps : List Stretch) → Fills AnySize ps (joined ps)
 joined-fills [] = empty
 joined-fills (p ∷ []) = single
 joined-fills (p ∷ (q ∷ qs)) = let (g, same, least) = joined-fill p q qs in
-    subst (Fills AnySize (p ∷ (q ∷ qs))) (sym same) (fill-fills AnySize (g + 1) (λ _ _. tt) 1 (p ∷ (q ∷ qs)))
+    subst (Fills AnySize (p ∷ (q ∷ qs))) (sym same) (fill-fills AnySize (chosenBy (Number (g .at))) (λ _ _ _. tt) (p ∷ (q ∷ qs)))
 
 pub joins-in : (n low : ℕ) (ps : List Stretch) → Rising low ps → (h : ℕ) → In ps h → In (joins n ps) h
 joins-in zero low ps r h i = i

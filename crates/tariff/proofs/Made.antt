@@ -48,10 +48,19 @@ pub record NumbersBounds (n : Numbers) : Type 0 where
 
 abbrev pub generator : (n : Numbers) → NumbersBounds n → Generator
 generator n p = record {
-  «min_load» = n .0 .0; «load_cost» = n .0 .1; «start_up» = n .0 .2;
-  mrt = n .1 .0; mdt = n .1 .1; mds = n .1 .2; «carried_in» = n .2;
+  «min_load» = n .0 .0;
+  «load_cost» = n .0 .1;
+  «start_up» = n .0 .2;
+  mrt = n .1 .0;
+  mdt = n .1 .1;
+  mds = n .1 .2;
+  «carried_in» = n .2;
   bid = record { b1 = n .3 .0; u1 = n .3 .1; b2 = n .3 .2; u2 = n .3 .3; b3 = n .3 .4; prices = p .prices; rises = p .rises; steps = p .steps };
-  costs = p .costs; run = p .run; down = p .down; starts = p .starts; above = p .above;
+  costs = p .costs;
+  run = p .run;
+  down = p .down;
+  starts = p .starts;
+  above = p .above;
 }
 
 bounds-once : (n : Numbers) (p q : NumbersBounds n) → p ≡ q

@@ -18,14 +18,16 @@ Unchecked fs i = (allFit (drop i fs) ≡ allFit fs) × (firstOut (i + 1) (drop i
 
 module _ (fs : List Field) (i : ℕ) (d : Field) (h : i < length fs) (inv : Unchecked fs i) where
   pub field-fits : fits (getD fs i d) ≡ true → Unchecked fs (i + 1)
-  field-fits e =
-      (ap (λ b. b && allFit (drop (i + 1) fs)) (sym e) ∙ sym (at-drop-more allFit fs i d h) ∙ inv .0,
-       sym (at-drop-more (firstOut (i + 1)) fs i d h ∙ cond-true _ _ _ e) ∙ inv .1)
+  field-fits e = (
+    ap (λ b. b && allFit (drop (i + 1) fs)) (sym e) ∙ sym (at-drop-more allFit fs i d h) ∙ inv .0,
+    sym (at-drop-more (firstOut (i + 1)) fs i d h ∙ cond-true _ _ _ e) ∙ inv .1,
+  )
 
   pub field-out : fits (getD fs i d) ≡ false → (allFit fs ≡ false) × (firstOut 1 fs ≡ i + 1)
-  field-out e =
-      (sym (inv .0) ∙ at-drop-more allFit fs i d h ∙ and-left _ _ e,
-       sym (inv .1) ∙ at-drop-more (firstOut (i + 1)) fs i d h ∙ cond-false _ _ _ e)
+  field-out e = (
+    sym (inv .0) ∙ at-drop-more allFit fs i d h ∙ and-left _ _ e,
+    sym (inv .1) ∙ at-drop-more (firstOut (i + 1)) fs i d h ∙ cond-false _ _ _ e,
+  )
 
 pub all-checked : (fs : List Field) (i : ℕ) → length fs ≤ i → Unchecked fs i → allFit fs ≡ true
 all-checked fs i h inv = sym (inv .0) ∙ at-drop-all allFit fs i h

@@ -5,21 +5,23 @@
 --   stays      step 1, one hour: flagged, or the hour before belongs to a period that began fewer than MRT hours ago
 --   held       step 1: which hours belong
 --   join       two periods and the gap between them, as one
---   fill       the first `most` gaps of fewer than `below` hours are filled
+--   fill       the gaps that are chosen are filled
 --   bridged    step 2: every gap of fewer than MDT hours is filled
---   smallest   the smallest gap, if there is one
---   joined     the two periods with the smallest gap are joined, the earliest on a tie
+--   smallest   the smallest gap, the earliest on a tie, if there is a gap
+--   joined     the two periods with that gap are joined
 --   limitOf    how many periods may remain
 --   periods    all three steps in order
 --   periodsOf  the same of a generator's day
 use mathlib.Core.Bool.{Bool, true, false, cond, _&&_, _||_}
 use mathlib.Core.List.{List, [], _∷_, map}
 use Prim.Native.Nat.{ℕ, zero, suc, _+_, _-_}
-use lib.Dec.{ltb}
+use lib.Dec.{ltb, eqb}
 use lib.ListN.{length}
-use Rattle.std.specs.Iters.{folded}
 use Rattle.std.specs.declared.option.Option.{Option}
 use Rattle.std.specs.declared.option.Option.the-variants.{Some, None}
+use Rattle.tariff.specs.declared.gaps.Choice.{Choice}
+use Rattle.tariff.specs.declared.gaps.Choice.the-variants.{FewerThan, Number}
+use Rattle.tariff.specs.declared.gaps.Gap.{Gap}
 use Rattle.tariff.specs.declared.generator.Generator.{Generator}
 use Rattle.tariff.specs.declared.records.HourRecord.{HourRecord}
 use Rattle.tariff.specs.declared.stretch.Stretch.{Stretch}
@@ -46,30 +48,38 @@ held mrt flags = heldFrom mrt 0 flags
 abbrev pub join : Stretch → Stretch → Stretch
 join p q = record { first = p .first; last = q .last }
 
--- `p` is the period at hand: the next is joined to it, or it is left as it is
-abbrev pub fillFrom : ℕ → ℕ → Stretch → List Stretch → List Stretch
-fillFrom below most p [] = p ∷ []
-fillFrom below most p (q ∷ qs) =
-    cond (ltb 0 most && ltb (gap p q) below) (fillFrom below (most - 1) (join p q) qs) (p ∷ fillFrom below most q qs)
+-- `p` is the period at hand, and the gap behind it has the position i: the next period is joined to it, or it is left as it is
+abbrev pub fillFrom : (ℕ → ℕ → Bool) → ℕ → Stretch → List Stretch → List Stretch
+fillFrom chosen i p [] = p ∷ []
+fillFrom chosen i p (q ∷ qs) =
+    cond (chosen i (gap p q)) (fillFrom chosen (i + 1) (join p q) qs) (p ∷ fillFrom chosen (i + 1) q qs)
 
-abbrev pub fill : ℕ → ℕ → List Stretch → List Stretch
-fill below most [] = []
-fill below most (p ∷ ps) = fillFrom below most p ps
+abbrev pub fill : (ℕ → ℕ → Bool) → List Stretch → List Stretch
+fill chosen [] = []
+fill chosen (p ∷ ps) = fillFrom chosen 0 p ps
+
+-- which gaps are filled, by their position and their hours
+abbrev pub chosenBy : Choice → ℕ → ℕ → Bool
+chosenBy (FewerThan hours) i g = ltb g hours
+chosenBy (Number at) i g = eqb i at
 
 abbrev pub bridged : ℕ → List Stretch → List Stretch
-bridged mdt ps = fill mdt (length ps) ps
+bridged mdt ps = fill (chosenBy (FewerThan mdt)) ps
 
-abbrev pub smaller : Option ℕ → ℕ → Option ℕ
+abbrev pub smaller : Option Gap → Gap → Option Gap
 smaller None g = Some g
-smaller (Some least) g = cond (ltb g least) (Some g) (Some least)
+smaller (Some least) g = cond (ltb (g .hours) (least .hours)) (Some g) (Some least)
 
-abbrev pub smallest : List ℕ → Option ℕ
-smallest gs = folded smaller None gs
+abbrev pub smallestFrom : ℕ → Option Gap → List ℕ → Option Gap
+smallestFrom i least [] = least
+smallestFrom i least (g ∷ gs) = smallestFrom (i + 1) (smaller least (record { at = i; hours = g })) gs
 
--- the first gap of at most the smallest one's hours
-abbrev pub joinedAt : Option ℕ → List Stretch → List Stretch
+abbrev pub smallest : List ℕ → Option Gap
+smallest gs = smallestFrom 0 None gs
+
+abbrev pub joinedAt : Option Gap → List Stretch → List Stretch
 joinedAt None ps = ps
-joinedAt (Some g) ps = fill (g + 1) 1 ps
+joinedAt (Some g) ps = fill (chosenBy (Number (g .at))) ps
 
 abbrev pub joined : List Stretch → List Stretch
 joined ps = joinedAt (smallest (gaps ps)) ps

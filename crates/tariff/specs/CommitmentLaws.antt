@@ -58,7 +58,7 @@ pub record SelfCommitted (mrt mdt mds : ℕ) (carried : Bool) (flags : List Bool
   pub flagged-hours-belong : (h : ℕ) → Flagged flags h → In (periods mrt mdt mds carried flags) h
   -- flagged, held by minimum run time, in a gap shorter than MDT, or in a gap that a join filled
   pub others-have-a-reason : (h : ℕ) → In (periods mrt mdt mds carried flags) h
-    → Flagged flags h ⊎ (HeldOn mrt (afterMrt mrt flags) h ⊎ (Between (λ g. g < mdt) (afterMrt mrt flags) h ⊎ Between (λ _. Unit {0}) (afterMdt mrt mdt flags) h))
+      → Flagged flags h ⊎ (HeldOn mrt (afterMrt mrt flags) h ⊎ (Between (λ g. g < mdt) (afterMrt mrt flags) h ⊎ Between (λ _. Unit {0}) (afterMdt mrt mdt flags) h))
   pub long-enough : All (λ p. (mrt ≤ hours p) ⊎ (p .last ≡ length flags)) (afterMrt mrt flags)
   pub far-apart : All (λ g. mdt ≤ g) (gaps (afterMdt mrt mdt flags))
   pub joined-down : JoinedDown (limitOf mds carried (afterMdt mrt mdt flags)) (afterMdt mrt mdt flags) (periods mrt mdt mds carried flags)

@@ -51,9 +51,18 @@ slot (Err e) = None
 
 abbrev pub workedGenerator : Result Generator OutOfRange
 workedGenerator = generatorOf (record {
-  «min_load» = pos 10000; «load_cost» = pos 40000; «start_up» = pos 50000;
-  mrt = pos 1; mdt = pos 1; mds = pos 1; carried = pos 0;
-  b1 = pos 5000; u1 = pos 30000; b2 = pos 5000; u2 = pos 30000; b3 = pos 5000;
+  «min_load» = pos 10000;
+  «load_cost» = pos 40000;
+  «start_up» = pos 50000;
+  mrt = pos 1;
+  mdt = pos 1;
+  mds = pos 1;
+  carried = pos 0;
+  b1 = pos 5000;
+  u1 = pos 30000;
+  b2 = pos 5000;
+  u2 = pos 30000;
+  b3 = pos 5000;
 })
 
 abbrev pub workedHour : ℤ → Result HourRecord OutOfRange

@@ -6,8 +6,10 @@ ghost use lib.ListN.{length};
 ghost use Rattle.std.specs.declared.option.Option.the-variants.{Some, None};
 ghost use Rattle.tariff.specs.Stretches.{listed, gap, gaps};
 ghost use Rattle.tariff.specs.CommitmentLaws.{SelfCommitted};
-ghost use Rattle.tariff.specs.Commitment.{flagged, flags, stays, held, join, fill, bridged, smaller, smallest, joined, limitOf, limited, periodsOf};
+ghost use Rattle.tariff.specs.Commitment.{flagged, flags, stays, held, join, fill, chosenBy, bridged, smaller, smallest, joined, limitOf, limited, periodsOf};
 use crate::day::Day;
+use crate::gaps::Choice;
+use crate::gaps::Gap;
 use crate::generator::Generator;
 use crate::records::HourRecord;
 use crate::stretch::Stretch;
@@ -36,6 +38,14 @@ fn stays_on(mrt: u8, ran: u8, flag: bool) -> bool
     flag || (0 < ran && ran < mrt)
 }
 
+// How long the period has run after the hour, if the hour belongs to it.
+fn ran_on(on: bool, ran: u8) -> u8
+    requires { ⌜ ran < 255 ⌝ }
+    ensures { λ r. ⌜ r ≡ cond on (ran + 1) 0 ⌝ }
+{
+    if on { ran + 1 } else { 0 }
+}
+
 // Step 1: the hours that are flagged or held by minimum run time, counted from the hour in which their period began.
 fn held(flags: &[bool; 24], mrt: u8) -> [bool; 24]
     ensures { λ r. ⌜ r ≡ held mrt (now (flags .entry)) ⌝ }
@@ -45,15 +55,20 @@ fn held(flags: &[bool; 24], mrt: u8) -> [bool; 24]
     for i in 0..24 {
         let on = stays_on(mrt, ran, flags[i]);
         out[i] = on;
-        ran = if on { ran + 1 } else { 0 };
+        ran = ran_on(on, ran);
     }
     out
 }
 
-fn is_filled(below: usize, most: usize, p: Stretch, q: Stretch) -> bool
-    ensures { λ r. ⌜ r ≡ (ltb 0 most && ltb (gap p q) below) ⌝ }
-{
-    0 < most && usize::from(gap(p, q)) < below
+impl Choice {
+    fn takes(self, at: usize, hours: u8) -> bool
+        ensures { λ r. ⌜ r ≡ chosenBy self at hours ⌝ }
+    {
+        match self {
+            Choice::FewerThan(most) => hours < most,
+            Choice::Number(number) => at == number,
+        }
+    }
 }
 
 fn left_behind(filled: bool, p: Stretch) -> Option<Stretch>
@@ -65,41 +80,47 @@ fn left_behind(filled: bool, p: Stretch) -> Option<Stretch>
 fn taken_on(filled: bool, p: Stretch, q: Stretch) -> Stretch
     ensures { λ r. ⌜ r ≡ cond filled (join p q) q ⌝ }
 {
-    if filled { Stretch { first: p.first, last: q.last } } else { q }
+    if filled {
+        Stretch {
+            first: p.first,
+            last: q.last,
+        }
+    } else {
+        q
+    }
 }
 
-// The first `most` gaps of fewer than `below` hours are filled.
-fn fill(periods: &[Stretch], below: usize, most: usize) -> Stretches
+// The gaps that are chosen are filled.
+fn fill(periods: &[Stretch], choice: Choice) -> Stretches
     requires { ⌜ length (now periods) ≤ 24 ⌝ }
-    ensures { λ r. ⌜ listed r ≡ fill below most (now (periods .entry)) ⌝ }
+    ensures { λ r. ⌜ listed r ≡ fill (chosenBy choice) (now (periods .entry)) ⌝ }
 {
     let mut out = Stretches::none();
     if periods.is_empty() {
         return out;
     }
     let mut current = periods[0];
-    let mut left = most;
     for i in 1..periods.len() {
         let next = periods[i];
-        let filled = is_filled(below, left, current, next);
+        let filled = choice.takes(i - 1, gap(current, next));
         out.add(left_behind(filled, current));
         current = taken_on(filled, current, next);
-        left = left.saturating_sub(usize::from(filled));
     }
     out.add(Some(current));
     out
 }
 
-fn smaller_of(least: Option<u8>, gap: u8) -> Option<u8>
+fn smaller_of(least: Option<Gap>, gap: Gap) -> Option<Gap>
     ensures { λ r. ⌜ r ≡ smaller least gap ⌝ }
 {
     match least {
-        Some(least) if least <= gap => Some(least),
+        Some(least) if least.hours <= gap.hours => Some(least),
         _ => Some(gap),
     }
 }
 
-fn smallest_gap(periods: &[Stretch]) -> Option<u8>
+// The smallest gap, the earliest on a tie.
+fn smallest_gap(periods: &[Stretch]) -> Option<Gap>
     ensures { λ r. ⌜ r ≡ smallest (gaps (now (periods .entry))) ⌝ }
 {
     if periods.is_empty() {
@@ -109,7 +130,13 @@ fn smallest_gap(periods: &[Stretch]) -> Option<u8>
     let mut before = periods[0];
     for i in 1..periods.len() {
         let next = periods[i];
-        least = smaller_of(least, gap(before, next));
+        least = smaller_of(
+            least,
+            Gap {
+                at: i - 1,
+                hours: gap(before, next),
+            },
+        );
         before = next;
     }
     least
@@ -119,17 +146,16 @@ fn smallest_gap(periods: &[Stretch]) -> Option<u8>
 fn bridge(periods: &Stretches, mdt: u8) -> Stretches
     ensures { λ r. ⌜ listed r ≡ bridged mdt (listed (now (periods .entry))) ⌝ }
 {
-    let periods = periods.as_slice();
-    fill(periods, usize::from(mdt), periods.len())
+    fill(periods.as_slice(), Choice::FewerThan(mdt))
 }
 
-// One join: the first gap of at most the smallest one's hours is filled.
+// One join: the two periods with the smallest gap.
 fn join_smallest(periods: &Stretches) -> Stretches
     ensures { λ r. ⌜ listed r ≡ joined (listed (now (periods .entry))) ⌝ }
 {
     match smallest_gap(periods.as_slice()) {
         None => *periods,
-        Some(least) => fill(periods.as_slice(), usize::from(least) + 1, 1),
+        Some(gap) => fill(periods.as_slice(), Choice::Number(gap.at)),
     }
 }
 
@@ -137,7 +163,11 @@ fn limit_of(mds: u8, carried: bool, periods: &Stretches) -> usize
     ensures { λ r. ⌜ r ≡ limitOf mds carried (listed (now (periods .entry))) ⌝ }
 {
     let mds = usize::from(mds);
-    if carried && periods.cover(1) { mds + 1 } else { mds }
+    if carried && periods.cover(1) {
+        mds + 1
+    } else {
+        mds
+    }
 }
 
 // Step 3: joins, as many as there are periods above the limit, since each leaves one fewer.

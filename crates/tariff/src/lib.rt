@@ -6,6 +6,7 @@ mod commitment;
 mod cost;
 mod day;
 mod energy;
+mod gaps;
 mod generator;
 mod range;
 mod records;

@@ -13,4 +13,5 @@ pub struct OutOfRange {
 }
 
 mod checks;
+
 pub(crate) use checks::check;

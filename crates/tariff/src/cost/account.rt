@@ -127,7 +127,12 @@ fn sum_costs(generator: &Generator, kinds: &[HourKind; 24], slots: &[Option<Hour
     total
 }
 
-fn sum_revenues(generator: &Generator, kinds: &[HourKind; 24], slots: &[Option<HourRecord>; 24], prices: &[Option<Price>; 24]) -> i64
+fn sum_revenues(
+    generator: &Generator,
+    kinds: &[HourKind; 24],
+    slots: &[Option<HourRecord>; 24],
+    prices: &[Option<Price>; 24],
+) -> i64
     ensures value { λ r. ⌜ r ≡ revenues (now (generator .entry)) (now (kinds .entry)) (now (slots .entry)) (now (prices .entry)) ⌝ }
     ensures bound { λ r. ⌜ natAbs r ≤ 480000000000 ⌝ }
 {

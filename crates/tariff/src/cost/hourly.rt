@@ -60,7 +60,10 @@ impl Generator {
         let scheduled = kwh(hour.day_ahead);
         match kind {
             HourKind::SelfCommitted => self.bid.area(self.taken(hour), scheduled),
-            HourKind::Committed => plus(thousandths(self.load_cost), self.bid.area(self.min_load, scheduled)),
+            HourKind::Committed => plus(
+                thousandths(self.load_cost),
+                self.bid.area(self.min_load, scheduled),
+            ),
             HourKind::Off => 0,
         }
     }

@@ -12,7 +12,13 @@ impl Hour {
     pub fn new(hour: i64) -> Result<Hour, OutOfRange>
         ensures { λ r. ⌜ r ≡ hourOf hour ⌝ }
     {
-        check(&[Field { value: hour, least: 1, most: 24 }])?;
+        check(
+            &[Field {
+                value: hour,
+                least: 1,
+                most: 24,
+            }],
+        )?;
         Ok(Hour { number: hour as u8 })
     }
 }

@@ -14,18 +14,66 @@ impl GeneratorForm {
         ensures { λ r. ⌜ r ≡ generatorFields (now (self .entry)) ⌝ }
     {
         [
-            Field { value: self.min_load, least: 0, most: 100_000 },
-            Field { value: self.load_cost, least: 0, most: 1_000_000 },
-            Field { value: self.start_up, least: 0, most: 10_000_000 },
-            Field { value: self.mrt, least: 1, most: 24 },
-            Field { value: self.mdt, least: 1, most: 24 },
-            Field { value: self.mds, least: 1, most: 24 },
-            Field { value: self.carried, least: 0, most: 1 },
-            Field { value: self.b1, least: -200_000, most: 200_000 },
-            Field { value: self.u1, least: self.min_load, most: 100_000 },
-            Field { value: self.b2, least: self.b1, most: 200_000 },
-            Field { value: self.u2, least: self.u1, most: 100_000 },
-            Field { value: self.b3, least: self.b2, most: 200_000 },
+            Field {
+                value: self.min_load,
+                least: 0,
+                most: 100_000,
+            },
+            Field {
+                value: self.load_cost,
+                least: 0,
+                most: 1_000_000,
+            },
+            Field {
+                value: self.start_up,
+                least: 0,
+                most: 10_000_000,
+            },
+            Field {
+                value: self.mrt,
+                least: 1,
+                most: 24,
+            },
+            Field {
+                value: self.mdt,
+                least: 1,
+                most: 24,
+            },
+            Field {
+                value: self.mds,
+                least: 1,
+                most: 24,
+            },
+            Field {
+                value: self.carried,
+                least: 0,
+                most: 1,
+            },
+            Field {
+                value: self.b1,
+                least: -200_000,
+                most: 200_000,
+            },
+            Field {
+                value: self.u1,
+                least: self.min_load,
+                most: 100_000,
+            },
+            Field {
+                value: self.b2,
+                least: self.b1,
+                most: 200_000,
+            },
+            Field {
+                value: self.u2,
+                least: self.u1,
+                most: 100_000,
+            },
+            Field {
+                value: self.b3,
+                least: self.b2,
+                most: 200_000,
+            },
         ]
     }
 

@@ -22,7 +22,9 @@ pub(crate) fn check(fields: &[Field]) -> Result<(), OutOfRange>
 {
     for i in 0..fields.len() {
         if !fields[i].fits() {
-            return Err(OutOfRange { field: (i + 1) as u8 });
+            return Err(OutOfRange {
+                field: (i + 1) as u8,
+            });
         }
     }
     Ok(())

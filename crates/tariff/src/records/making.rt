@@ -14,15 +14,38 @@ const MOST_ENERGY: i64 = 100_000;
 const MOST_PRICE: i64 = 200_000;
 
 impl HourRecord {
-    pub fn of_generator(day_ahead: i64, meter: i64, self_schedule: i64, commit: i64) -> Result<HourRecord, OutOfRange>
+    pub fn of_generator(
+        day_ahead: i64,
+        meter: i64,
+        self_schedule: i64,
+        commit: i64,
+    ) -> Result<HourRecord, OutOfRange>
         ensures { λ r. ⌜ r ≡ generatorHour «day_ahead» meter «self_schedule» commit ⌝ }
     {
-        check(&[
-            Field { value: day_ahead, least: 0, most: MOST_ENERGY },
-            Field { value: meter, least: -MOST_ENERGY, most: MOST_ENERGY },
-            Field { value: self_schedule, least: 0, most: MOST_ENERGY },
-            Field { value: commit, least: 0, most: 1 },
-        ])?;
+        check(
+            &[
+                Field {
+                    value: day_ahead,
+                    least: 0,
+                    most: MOST_ENERGY,
+                },
+                Field {
+                    value: meter,
+                    least: -MOST_ENERGY,
+                    most: MOST_ENERGY,
+                },
+                Field {
+                    value: self_schedule,
+                    least: 0,
+                    most: MOST_ENERGY,
+                },
+                Field {
+                    value: commit,
+                    least: 0,
+                    most: 1,
+                },
+            ],
+        )?;
         Ok(HourRecord {
             day_ahead: day_ahead as i32,
             meter: meter as i32,
@@ -35,11 +58,26 @@ impl HourRecord {
     pub fn of_load(day_ahead: i64, meter: i64) -> Result<HourRecord, OutOfRange>
         ensures { λ r. ⌜ r ≡ loadHour «day_ahead» meter ⌝ }
     {
-        check(&[
-            Field { value: day_ahead, least: -MOST_ENERGY, most: 0 },
-            Field { value: meter, least: -MOST_ENERGY, most: 0 },
-        ])?;
-        Ok(HourRecord { day_ahead: day_ahead as i32, meter: meter as i32, self_schedule: 0, committed: false })
+        check(
+            &[
+                Field {
+                    value: day_ahead,
+                    least: -MOST_ENERGY,
+                    most: 0,
+                },
+                Field {
+                    value: meter,
+                    least: -MOST_ENERGY,
+                    most: 0,
+                },
+            ],
+        )?;
+        Ok(HourRecord {
+            day_ahead: day_ahead as i32,
+            meter: meter as i32,
+            self_schedule: 0,
+            committed: false,
+        })
     }
 }
 
@@ -47,11 +85,24 @@ impl Price {
     pub fn new(day_ahead: i64, real_time: i64) -> Result<Price, OutOfRange>
         ensures { λ r. ⌜ r ≡ priceOf «day_ahead» «real_time» ⌝ }
     {
-        check(&[
-            Field { value: day_ahead, least: -MOST_PRICE, most: MOST_PRICE },
-            Field { value: real_time, least: -MOST_PRICE, most: MOST_PRICE },
-        ])?;
-        Ok(Price { day_ahead: day_ahead as i32, real_time: real_time as i32 })
+        check(
+            &[
+                Field {
+                    value: day_ahead,
+                    least: -MOST_PRICE,
+                    most: MOST_PRICE,
+                },
+                Field {
+                    value: real_time,
+                    least: -MOST_PRICE,
+                    most: MOST_PRICE,
+                },
+            ],
+        )?;
+        Ok(Price {
+            day_ahead: day_ahead as i32,
+            real_time: real_time as i32,
+        })
     }
 }
 
@@ -59,7 +110,12 @@ impl HourRecord {
     fn zeros() -> HourRecord
         ensures { λ r. ⌜ r ≡ zeros ⌝ }
     {
-        HourRecord { day_ahead: 0, meter: 0, self_schedule: 0, committed: false }
+        HourRecord {
+            day_ahead: 0,
+            meter: 0,
+            self_schedule: 0,
+            committed: false,
+        }
     }
 
     // An hour without a record counts as zeros.
@@ -74,7 +130,10 @@ impl Price {
     fn none() -> Price
         ensures { λ r. ⌜ r ≡ noPrice ⌝ }
     {
-        Price { day_ahead: 0, real_time: 0 }
+        Price {
+            day_ahead: 0,
+            real_time: 0,
+        }
     }
 
     // Only an hour without a record does without a price, and its energy is zero.

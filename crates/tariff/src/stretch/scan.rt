@@ -28,7 +28,10 @@ impl Stretches {
     pub(crate) fn none() -> Stretches
         ensures { λ r. ⌜ listed r ≡ [] ⌝ }
     {
-        Stretches { items: [Stretch { first: 0, last: 0 }; 24], count: 0 }
+        Stretches {
+            items: [Stretch { first: 0, last: 0 }; 24],
+            count: 0,
+        }
     }
 
     pub(crate) fn add(&mut self, p: Option<Stretch>)
@@ -72,7 +75,10 @@ fn ended_at(hour: u8, began: Option<u8>, marked: bool) -> Option<Stretch>
     ensures { λ r. ⌜ r ≡ ended hour began marked ⌝ }
 {
     match began {
-        Some(first) if !marked => Some(Stretch { first, last: hour.saturating_sub(1) }),
+        Some(first) if !marked => Some(Stretch {
+            first,
+            last: hour.saturating_sub(1),
+        }),
         _ => None,
     }
 }

@@ -8,8 +8,8 @@ use Rattle.tariff.proofs.commitment.flags.Needs as need
 pub loop-i-again : need.loop-i-again
 loop-i-again c = (
   write-step (c .loop-i .out) (c .loop-i .i) (c .is-flagged .result) _ _ _ (omega arith)
-    (map-now flagged (c .args .slots .now) (c .loop-i .i) _ (c .is-flagged .result) (omega arith) (c .is-flagged .ensures))
-    (c .loop-i .inv .0),
+      (map-now flagged (c .args .slots .now) (c .loop-i .i) _ (c .is-flagged .result) (omega arith) (c .is-flagged .ensures))
+      (c .loop-i .inv .0),
   simp length-set (omega arith),
 )
 

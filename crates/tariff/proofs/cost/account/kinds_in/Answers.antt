@@ -10,9 +10,9 @@ use Rattle.tariff.proofs.cost.account.kinds_in.Needs as need
 pub loop-i-again : need.loop-i-again
 loop-i-again c = (
   write-step (c .loop-i .out) (c .loop-i .i) (c .kind-of .result) _ _ _ (omega arith)
-    (kind-now (listed (c .args .periods .now)) (c .args .slots .now) (c .loop-i .i) _ (c .kind-of .result) (omega arith)
+      (kind-now (listed (c .args .periods .now)) (c .args .slots .now) (c .loop-i .i) _ (c .kind-of .result) (omega arith)
       (c .kind-of .ensures ∙ (λ i. kindOf (c .cover-belongs .ensures i) (c .counted .ensures i .committed))))
-    (c .loop-i .inv .0),
+      (c .loop-i .inv .0),
   simp length-set (omega arith),
 )
 

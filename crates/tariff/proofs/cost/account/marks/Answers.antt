@@ -9,8 +9,8 @@ use Rattle.tariff.proofs.cost.account.marks.Needs as need
 pub loop-i-again : need.loop-i-again
 loop-i-again c = (
   write-step (c .loop-i .out) (c .loop-i .i) (c .is-on .result) _ _ _ (omega arith)
-    (map-now isOn (c .args .kinds .now) (c .loop-i .i) _ (c .is-on .result) (omega arith) (c .is-on .ensures))
-    (c .loop-i .inv .0),
+      (map-now isOn (c .args .kinds .now) (c .loop-i .i) _ (c .is-on .result) (omega arith) (c .is-on .ensures))
+      (c .loop-i .inv .0),
   simp length-set (omega arith),
 )
 

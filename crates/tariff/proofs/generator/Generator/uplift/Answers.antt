@@ -15,9 +15,9 @@ returns c =
     let slots = c .args .day .now .slots in
     let prices = c .args .prices .now .slots in
     let cost : toZ w64 (ofZ w64 (c .cost-of-cost .result)) ≡ bidCost g slots =
-      toZ-ofZ w64 _ (record { sfits = c .cost-of-cost .ok }) ∙ c .cost-of-cost .ensures .value ∙ ap (λ ks. costOf g ks slots) (c .kinds-kinds .ensures) in
+    toZ-ofZ w64 _ (record { sfits = c .cost-of-cost .ok }) ∙ c .cost-of-cost .ensures .value ∙ ap (λ ks. costOf g ks slots) (c .kinds-kinds .ensures) in
     let earned : toZ w64 (ofZ w64 (c .sum-revenues-earned .result)) ≡ revenue g slots prices =
-      toZ-ofZ w64 _ (record { sfits = c .sum-revenues-earned .ok }) ∙ c .sum-revenues-earned .ensures .value ∙ ap (λ ks. revenues g ks slots prices) (c .kinds-kinds .ensures) in
+    toZ-ofZ w64 _ (record { sfits = c .sum-revenues-earned .ok }) ∙ c .sum-revenues-earned .ensures .value ∙ ap (λ ks. revenues g ks slots prices) (c .kinds-kinds .ensures) in
     let value = c .paid .ensures .value ∙ (λ i. orZero (rounded (cost i -ℤ earned i))) in
     record {
       value = value;

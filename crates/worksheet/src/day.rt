@@ -1,0 +1,130 @@
+use crate::cents::Cents;
+use crate::cents::CentsDisplay;
+use std::io;
+use tariff::Day;
+use tariff::Generator;
+use tariff::GeneratorForm;
+use tariff::Hour;
+use tariff::HourKind;
+use tariff::HourRecord;
+use tariff::OutOfRange;
+use tariff::Price;
+use tariff::Stretch;
+
+// A generator that is committed in hours 2 and 3, with the prices of its place.
+#[derive(Clone, Copy)]
+pub struct WorkedDay {
+    generator: Generator,
+    hours: Day<HourRecord>,
+    prices: Day<Price>,
+}
+
+impl WorkedDay {
+    // The self-schedule is that of hour 2.
+    pub fn with_self_schedule(own: i64) -> Result<WorkedDay, OutOfRange> {
+        let generator = Generator::register(
+            &GeneratorForm {
+                min_load: 10_000,
+                load_cost: 40_000,
+                start_up: 50_000,
+                mrt: 1,
+                mdt: 1,
+                mds: 1,
+                carried: 0,
+                b1: 5_000,
+                u1: 30_000,
+                b2: 5_000,
+                u2: 30_000,
+                b3: 5_000,
+            },
+        )?;
+        let second = Hour::new(2)?;
+        let third = Hour::new(3)?;
+        let mut hours = Day::empty();
+        hours.set(second, HourRecord::of_generator(20_000, 19_000, own, 1)?);
+        hours.set(third, HourRecord::of_generator(20_000, 19_000, 0, 1)?);
+        let mut prices = Day::empty();
+        prices.set(second, Price::new(4_000, 4_500)?);
+        prices.set(third, Price::new(4_000, 4_500)?);
+        Ok(WorkedDay {
+            generator,
+            hours,
+            prices,
+        })
+    }
+
+    pub fn print(&self, rt: &impl Print) -> io::Result<()> {
+        self.print_periods(rt)?;
+        let kinds = self.generator.kinds(&self.hours);
+        for i in 0..24 {
+            if kinds[i].is_on() {
+                self.print_hour(
+                    rt,
+                    i + 1,
+                    kinds[i],
+                    self.hours.slots[i],
+                    self.prices.slots[i],
+                )?;
+            }
+        }
+        for run in tariff::runs(&kinds).as_slice() {
+            self.print_run(rt, *run, &kinds)?;
+        }
+        self.print_day(rt)
+    }
+
+    fn print_periods(&self, rt: &impl Print) -> io::Result<()> {
+        let periods = self.generator.periods(&self.hours);
+        if periods.as_slice().is_empty() {
+            return println!(rt, "  no self-commitment period");
+        }
+        for period in periods.as_slice() {
+            let first = period.first;
+            let last = period.last;
+            println!(rt, "  self-commitment period: hours {first} to {last}")?;
+        }
+        Ok(())
+    }
+
+    fn print_hour(
+        &self,
+        rt: &impl Print,
+        hour: usize,
+        kind: HourKind,
+        record: Option<HourRecord>,
+        price: Option<Price>,
+    ) -> io::Result<()> {
+        let name = match kind {
+            HourKind::Off => "off",
+            HourKind::Committed => "committed",
+            HourKind::SelfCommitted => "self-committed",
+        };
+        let record = HourRecord::counted(record);
+        let price = Price::counted(price);
+        let cost = Cents(self.generator.hour_cost(kind, &record));
+        let revenue = Cents(self.generator.hour_revenue(kind, &record, &price));
+        println!(rt, "  hour {hour} {name}: cost {cost} revenue {revenue}")
+    }
+
+    fn print_run(&self, rt: &impl Print, run: Stretch, kinds: &[HourKind; 24]) -> io::Result<()> {
+        let first = run.first;
+        let last = run.last;
+        let start_up = self.generator.start_up;
+        if tariff::start_is_paid(run, kinds, self.generator.carried_in) {
+            println!(
+                rt,
+                "  run of hours {first} to {last}: start-up {start_up}.000"
+            )
+        } else {
+            println!(rt, "  run of hours {first} to {last}: no start-up")
+        }
+    }
+
+    fn print_day(&self, rt: &impl Print) -> io::Result<()> {
+        let cost = Cents(self.generator.bid_cost(&self.hours));
+        let revenue = Cents(self.generator.revenue(&self.hours, &self.prices));
+        let uplift = self.generator.uplift(&self.hours, &self.prices);
+        println!(rt, "  day: cost {cost} revenue {revenue}")?;
+        println!(rt, "  uplift {uplift}")
+    }
+}

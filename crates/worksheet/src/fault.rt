@@ -1,0 +1,22 @@
+use std::io;
+use tariff::OutOfRange;
+use tariff::OutOfRangeDebug;
+
+// Why no sheet could be made.
+#[derive(Debug, Drop)]
+pub enum Fault {
+    Range(OutOfRange),
+    Output(io::Error),
+}
+
+pub impl From<OutOfRange> for Fault as FaultFromRange {
+    fn from(e: OutOfRange) -> Fault {
+        Fault::Range(e)
+    }
+}
+
+pub impl From<io::Error> for Fault as FaultFromIo {
+    fn from(e: io::Error) -> Fault {
+        Fault::Output(e)
+    }
+}
