@@ -1,5 +1,7 @@
 ghost use mathlib.Core.Path.{_≡_};
-ghost use lib.IntN.{pos, _*ℤ_};
+ghost use Prim.Native.Nat.{_+_, _^_, _≤_};
+ghost use lib.IntN.{pos, natAbs, _+ℤ_, _*ℤ_};
+ghost use Rattle.std.specs.Numbers.{saturated};
 ghost use Rattle.money.specs.Amounts.{orZero};
 ghost use Rattle.money.specs.Rounding.{rounded, Nearest};
 
@@ -32,4 +34,13 @@ pub fn or_zero(amount: i64) -> u64
     ensures { λ r. ⌜ r ≡ orZero amount ⌝ }
 {
     if amount < 0 { 0 } else { amount as u64 }
+}
+
+// A sum of two amounts, held at the ends of i64. Sums of a day stay far from them.
+pub fn plus(a: i64, b: i64) -> i64
+    ensures value { λ r. ⌜ r ≡ saturated 63 (a +ℤ b) ⌝ }
+    ensures exact { λ r. ⌜ (natAbs a ≤ 2 ^ 60 → natAbs b ≤ 2 ^ 60 → r ≡ a +ℤ b) ⌝ }
+    ensures bound { λ r. ⌜ natAbs r ≤ natAbs a + natAbs b ⌝ }
+{
+    a.saturating_add(b)
 }
