@@ -4,5 +4,6 @@ mod amount;
 
 pub use amount::cost;
 pub use amount::or_zero;
+pub use amount::plus;
 pub use amount::product;
 pub use amount::round_cents;

@@ -14,9 +14,9 @@ use crate::kinds::StorePartialEq;
 #[derive(Clone, Copy, PartialEq, Eq, Debug)]
 pub enum Refusal {
     // a field, by its position from 1
-    FieldOutOfRange { field: u8 },
+    FieldOutOfRange { field: usize },
     // rows of a sheet or entries of a list
-    TooFewRows { needed: u32, there: u32 },
+    TooFewRows { needed: usize, there: usize },
     NotRegistered { id: u16, kind: Kind },
     InUse { id: u16, kind: Kind },
     Full { store: Store },
@@ -49,33 +49,33 @@ impl Refusal {
     }
 
     // The first detail.
-    pub fn a(&self) -> u32
+    pub fn a(&self) -> u64
         ensures { λ r. ⌜ r ≡ aOf (now (self .entry)) ⌝ }
     {
         match *self {
-            Refusal::FieldOutOfRange { field } => u32::from(field),
-            Refusal::TooFewRows { needed, .. } => needed,
-            Refusal::NotRegistered { id, .. } => u32::from(id),
-            Refusal::InUse { id, .. } => u32::from(id),
+            Refusal::FieldOutOfRange { field } => field as u64,
+            Refusal::TooFewRows { needed, .. } => needed as u64,
+            Refusal::NotRegistered { id, .. } => u64::from(id),
+            Refusal::InUse { id, .. } => u64::from(id),
             Refusal::Full { store } => store.number(),
-            Refusal::DraftOut { draft } => u32::from(draft),
-            Refusal::NoSuchDraft { draft } => u32::from(draft),
-            Refusal::PriceMissing { resource, .. } => u32::from(resource),
+            Refusal::DraftOut { draft } => u64::from(draft),
+            Refusal::NoSuchDraft { draft } => u64::from(draft),
+            Refusal::PriceMissing { resource, .. } => u64::from(resource),
             Refusal::NoDemand { pot } => pot.number(),
-            Refusal::NothingToStrike { resource, .. } => u32::from(resource),
+            Refusal::NothingToStrike { resource, .. } => u64::from(resource),
         }
     }
 
     // The second detail.
-    pub fn b(&self) -> u32
+    pub fn b(&self) -> u64
         ensures { λ r. ⌜ r ≡ bOf (now (self .entry)) ⌝ }
     {
         match *self {
-            Refusal::TooFewRows { there, .. } => there,
+            Refusal::TooFewRows { there, .. } => there as u64,
             Refusal::NotRegistered { kind, .. } => kind.number(),
             Refusal::InUse { kind, .. } => kind.number(),
-            Refusal::PriceMissing { hour, .. } => u32::from(hour),
-            Refusal::NothingToStrike { hour, .. } => u32::from(hour),
+            Refusal::PriceMissing { hour, .. } => u64::from(hour),
+            Refusal::NothingToStrike { hour, .. } => u64::from(hour),
             Refusal::FieldOutOfRange { .. } => 0,
             Refusal::Full { .. } => 0,
             Refusal::DraftOut { .. } => 0,

@@ -27,7 +27,7 @@ pub enum Pot {
 }
 
 impl Kind {
-    pub fn number(self) -> u32
+    pub fn number(self) -> u64
         ensures { λ r. ⌜ r ≡ kindNumber self ⌝ }
     {
         match self {
@@ -39,7 +39,7 @@ impl Kind {
 }
 
 impl Store {
-    pub fn number(self) -> u32
+    pub fn number(self) -> u64
         ensures { λ r. ⌜ r ≡ storeNumber self ⌝ }
     {
         match self {
@@ -51,7 +51,7 @@ impl Store {
 }
 
 impl Pot {
-    pub fn number(self) -> u32
+    pub fn number(self) -> u64
         ensures { λ r. ⌜ r ≡ potNumber self ⌝ }
     {
         match self {

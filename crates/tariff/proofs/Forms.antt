@@ -10,7 +10,7 @@ use mir.Val.{toZ, ofZ}
 use Rattle.std.proofs.shelf.Signed.{ints, toZ-ofZ}
 use Rattle.money.proofs.Products.{fits-abs}
 use Rattle.tariff.specs.declared.generator.GeneratorForm.{GeneratorForm}
-use Rattle.tariff.specs.Ranges.{allFit, all-in}
+use Rattle.hours.specs.Ranges.{allFit, all-in}
 use Rattle.tariff.specs.Generators.{generatorFields, form-bounds}
 use Rattle.tariff.proofs.Made.{Numbers, NumbersBounds}
 

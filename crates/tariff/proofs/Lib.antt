@@ -1,13 +1,6 @@
-pub mod Ranges
 pub mod Made
 pub mod Forms
-pub mod Scans
-pub mod Steps
-pub mod Holding
-pub mod Fills
-pub mod Joins
-pub mod Commits
 pub mod Areas
 pub mod Sizes
-pub mod Sums
+pub mod Turns
 pub mod Uplifts

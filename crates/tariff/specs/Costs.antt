@@ -25,13 +25,13 @@ use Rattle.money.specs.Rounding.{rounded}
 use Rattle.tariff.specs.declared.cost.HourKind.{HourKind}
 use Rattle.tariff.specs.declared.cost.HourKind.the-variants.{Off, Committed, SelfCommitted}
 use Rattle.tariff.specs.declared.generator.Generator.{Generator}
-use Rattle.tariff.specs.declared.records.HourRecord.{HourRecord}
-use Rattle.tariff.specs.declared.records.Price.{Price}
-use Rattle.tariff.specs.declared.stretch.Stretch.{Stretch}
+use Rattle.hours.specs.declared.records.HourRecord.{HourRecord}
+use Rattle.hours.specs.declared.records.Price.{Price}
+use Rattle.commitment.specs.declared.stretch.Stretch.{Stretch}
 use Rattle.tariff.specs.Bids.{area}
-use Rattle.tariff.specs.Commitment.{periodsOf}
-use Rattle.tariff.specs.Days.{counted, overDay, recordAt, priceAt}
-use Rattle.tariff.specs.Stretches.{covers, stretches}
+use Rattle.tariff.specs.Schedules.{periodsOf}
+use Rattle.hours.specs.Days.{counted, overDay, recordAt, priceAt}
+use Rattle.commitment.specs.Stretches.{covers, stretches}
 
 abbrev pub kindOf : Bool → Bool → HourKind
 kindOf belongs committed = cond belongs SelfCommitted (cond committed Committed Off)

@@ -15,10 +15,11 @@ use Rattle.std.proofs.shelf.Signed.{ints}
 use Rattle.tariff.specs.declared.generator.GeneratorForm.{GeneratorForm}
 use Rattle.tariff.specs.declared.generator.EnergyBid.{EnergyBid}
 use Rattle.tariff.specs.declared.generator.Generator.{Generator}
-use Rattle.tariff.specs.declared.range.Field.{Field}
-use Rattle.tariff.specs.declared.range.OutOfRange.{OutOfRange}
-use Rattle.tariff.specs.Bounds.{BidPrices, BidRises, BidSteps, CostBounds, LimitBounds}
-use Rattle.tariff.specs.Ranges.{field, allFit, made, all-in}
+use Rattle.hours.specs.declared.range.Field.{Field}
+use Rattle.hours.specs.declared.range.OutOfRange.{OutOfRange}
+use Rattle.hours.specs.Bounds.{LimitBounds}
+use Rattle.tariff.specs.Bounds.{BidPrices, BidRises, BidSteps, CostBounds}
+use Rattle.hours.specs.Ranges.{field, allFit, made, all-in}
 
 -- the steps of the bid rise from the minimum load on, and their prices do not fall
 abbrev pub generatorFields : GeneratorForm → List Field

@@ -1,12 +1,6 @@
 pub mod Bounds
-pub mod Ranges
-pub mod Days
-pub mod Records
 pub mod Generators
 pub mod Bids
-pub mod Stretches
-pub mod Commitment
-pub mod CommitmentLaws
+pub mod Schedules
 pub mod Costs
-pub mod Energy
 pub mod Worked

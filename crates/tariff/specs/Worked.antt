@@ -21,15 +21,15 @@ use Rattle.std.specs.declared.result.Result.the-variants.{Ok, Err}
 use Rattle.money.specs.Rounding.{rounded}
 use Rattle.tariff.specs.declared.generator.Generator.{Generator}
 use Rattle.tariff.specs.declared.generator.GeneratorForm.{GeneratorForm}
-use Rattle.tariff.specs.declared.range.OutOfRange.{OutOfRange}
-use Rattle.tariff.specs.declared.records.HourRecord.{HourRecord}
-use Rattle.tariff.specs.declared.records.Price.{Price}
-use Rattle.tariff.specs.declared.stretch.Stretch.{Stretch}
-use Rattle.tariff.specs.Commitment.{periods}
+use Rattle.hours.specs.declared.range.OutOfRange.{OutOfRange}
+use Rattle.hours.specs.declared.records.HourRecord.{HourRecord}
+use Rattle.hours.specs.declared.records.Price.{Price}
+use Rattle.commitment.specs.declared.stretch.Stretch.{Stretch}
+use Rattle.commitment.specs.Commitment.{periods}
 use Rattle.tariff.specs.Costs.{uplift}
-use Rattle.tariff.specs.Days.{placed}
+use Rattle.hours.specs.Days.{placed}
 use Rattle.tariff.specs.Generators.{generatorOf}
-use Rattle.tariff.specs.Records.{generatorHour, priceOf}
+use Rattle.hours.specs.Records.{generatorHour, priceOf}
 
 abbrev pub has : List ℕ → ℕ → Bool
 has [] h = false

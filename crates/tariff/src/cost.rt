@@ -4,7 +4,6 @@ mod hourly;
 pub use account::runs;
 pub use account::start_is_paid;
 pub use account::start_ups;
-pub(crate) use hourly::plus;
 
 // What an hour is to a generator.
 #[derive(Clone, Copy, PartialEq, Eq, Debug)]

@@ -1,5 +1,6 @@
 ghost use Prim.Native.Nat.{_≤_};
-ghost use Rattle.tariff.specs.Bounds.{BidPrices, BidRises, BidSteps, CostBounds, LimitBounds};
+ghost use Rattle.hours.specs.Bounds.{LimitBounds};
+ghost use Rattle.tariff.specs.Bounds.{BidPrices, BidRises, BidSteps, CostBounds};
 
 mod registering;
 

@@ -1,15 +1,15 @@
 use crate::cents::Cents;
 use crate::cents::CentsDisplay;
+use commitment::Stretch;
+use hours::Day;
+use hours::Hour;
+use hours::HourRecord;
+use hours::OutOfRange;
+use hours::Price;
 use std::io;
-use tariff::Day;
 use tariff::Generator;
 use tariff::GeneratorForm;
-use tariff::Hour;
 use tariff::HourKind;
-use tariff::HourRecord;
-use tariff::OutOfRange;
-use tariff::Price;
-use tariff::Stretch;
 
 // A generator that is committed in hours 2 and 3, with the prices of its place.
 #[derive(Clone, Copy)]

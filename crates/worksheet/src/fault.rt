@@ -1,6 +1,6 @@
+use hours::OutOfRange;
+use hours::OutOfRangeDebug;
 use std::io;
-use tariff::OutOfRange;
-use tariff::OutOfRangeDebug;
 
 // Why no sheet could be made.
 #[derive(Debug, Drop)]

@@ -8,18 +8,18 @@ ghost use lib.ListN.{length};
 ghost use Rattle.std.specs.shelf.Lists.{countBy};
 ghost use Rattle.money.specs.Amounts.{orZero};
 ghost use Rattle.money.specs.Rounding.{rounded};
-ghost use Rattle.tariff.specs.Stretches.{listed};
+ghost use Rattle.commitment.specs.Stretches.{listed};
 ghost use Rattle.tariff.specs.Costs.{isOn, isSelfCommitted, kindsFrom, kinds, runs, selfIn, paidStart, startUps, costs, revenues, costOf, bidCost, revenue, uplift, Uplifted};
 use super::HourKind;
 use super::hourly::kind_of;
-use super::hourly::plus;
-use crate::day::Day;
 use crate::generator::Generator;
-use crate::records::HourRecord;
-use crate::records::Price;
-use crate::stretch::Stretch;
-use crate::stretch::Stretches;
+use commitment::Stretch;
+use commitment::Stretches;
+use hours::Day;
+use hours::HourRecord;
+use hours::Price;
 use money::or_zero;
+use money::plus;
 use money::round_cents;
 
 impl HourKind {

@@ -1,13 +1,14 @@
 ghost use mathlib.Core.Path.{_≡_};
-ghost use Prim.Native.Nat.{_*_, _^_, _≤_, _+_};
-ghost use lib.IntN.{pos, natAbs, _+ℤ_};
+ghost use Prim.Native.Nat.{_*_, _≤_};
+ghost use lib.IntN.{pos, natAbs};
 ghost use Rattle.money.specs.Amounts.{orZero};
 ghost use Rattle.tariff.specs.Costs.{kindOf, taken, hourCost, hourRevenue};
 use super::HourKind;
 use crate::generator::Generator;
-use crate::records::HourRecord;
-use crate::records::Price;
+use hours::HourRecord;
+use hours::Price;
 use money::cost;
+use money::plus;
 use money::product;
 
 fn kwh(energy: i32) -> u32
@@ -33,15 +34,6 @@ fn thousandths(cents: u32) -> i64
     ensures { λ r. ⌜ r ≡ pos (1000 * cents) ⌝ }
 {
     1000 * i64::from(cents)
-}
-
-// A sum of two amounts far from the ends of i64.
-pub(crate) fn plus(a: i64, b: i64) -> i64
-    requires { ⌜ natAbs a ≤ 2 ^ 60 ⌝ ∗ ⌜ natAbs b ≤ 2 ^ 60 ⌝ }
-    ensures value { λ r. ⌜ r ≡ a +ℤ b ⌝ }
-    ensures bound { λ r. ⌜ natAbs r ≤ natAbs a + natAbs b ⌝ }
-{
-    a + b
 }
 
 impl Generator {

@@ -1,79 +1,31 @@
 ghost use mathlib.Core.Path.{_≡_};
 ghost use Rattle.std.specs.Results.{Cases};
-ghost use Rattle.tariff.specs.Ranges.{Inside, Outside};
+ghost use Rattle.hours.specs.Ranges.{Inside, Outside};
 ghost use Rattle.tariff.specs.Generators.{generatorFields, generatorOf};
 use super::EnergyBid;
 use super::Generator;
 use super::GeneratorForm;
-use crate::range::Field;
-use crate::range::OutOfRange;
-use crate::range::check;
+use hours::Field;
+use hours::OutOfRange;
+use hours::check;
 
 impl GeneratorForm {
     fn fields(&self) -> [Field; 12]
         ensures { λ r. ⌜ r ≡ generatorFields (now (self .entry)) ⌝ }
     {
         [
-            Field {
-                value: self.min_load,
-                least: 0,
-                most: 100_000,
-            },
-            Field {
-                value: self.load_cost,
-                least: 0,
-                most: 1_000_000,
-            },
-            Field {
-                value: self.start_up,
-                least: 0,
-                most: 10_000_000,
-            },
-            Field {
-                value: self.mrt,
-                least: 1,
-                most: 24,
-            },
-            Field {
-                value: self.mdt,
-                least: 1,
-                most: 24,
-            },
-            Field {
-                value: self.mds,
-                least: 1,
-                most: 24,
-            },
-            Field {
-                value: self.carried,
-                least: 0,
-                most: 1,
-            },
-            Field {
-                value: self.b1,
-                least: -200_000,
-                most: 200_000,
-            },
-            Field {
-                value: self.u1,
-                least: self.min_load,
-                most: 100_000,
-            },
-            Field {
-                value: self.b2,
-                least: self.b1,
-                most: 200_000,
-            },
-            Field {
-                value: self.u2,
-                least: self.u1,
-                most: 100_000,
-            },
-            Field {
-                value: self.b3,
-                least: self.b2,
-                most: 200_000,
-            },
+            Field(self.min_load, 0, 100_000),
+            Field(self.load_cost, 0, 1_000_000),
+            Field(self.start_up, 0, 10_000_000),
+            Field(self.mrt, 1, 24),
+            Field(self.mdt, 1, 24),
+            Field(self.mds, 1, 24),
+            Field(self.carried, 0, 1),
+            Field(self.b1, -200_000, 200_000),
+            Field(self.u1, self.min_load, 100_000),
+            Field(self.b2, self.b1, 200_000),
+            Field(self.u2, self.u1, 100_000),
+            Field(self.b3, self.b2, 200_000),
         ]
     }
 

@@ -1,5 +1,5 @@
 use mathlib.Core.Path.{refl}
-use Rattle.tariff.specs.Days.{overHours}
+use Rattle.hours.specs.Days.{overHours}
 use Rattle.tariff.proofs.worked.worked_cases.Needs as need
 
 pub returns : need.returns

@@ -3,8 +3,9 @@ use mathlib.Core.Path.{_∙_}
 use lib.ListN.{length-set}
 use Rattle.std.proofs.shelf.Lists.{at-drop-all}
 use Rattle.tariff.specs.Costs.{kindOf, kindsFrom}
-use Rattle.tariff.specs.Stretches.{listed}
-use Rattle.tariff.proofs.Steps.{write-step, write-end, kind-now}
+use Rattle.commitment.specs.Stretches.{listed}
+use Rattle.commitment.proofs.Turns.{write-step, write-end}
+use Rattle.tariff.proofs.Turns.{kind-now}
 use Rattle.tariff.proofs.cost.account.kinds_in.Needs as need
 
 pub loop-i-again : need.loop-i-again

@@ -3,7 +3,7 @@ use mathlib.Core.List.{_++_}
 use Prim.Native.Nat.{_+_}
 use lib.ListN.{length, take, drop}
 use Rattle.tariff.specs.Costs.{kindsFrom}
-use Rattle.tariff.specs.Stretches.{listed}
+use Rattle.commitment.specs.Stretches.{listed}
 use Rattle.tariff.proofs.cost.account.kinds_in.Given as given
 
 abbrev pub Inv-loop-i : given.InvT-loop-i

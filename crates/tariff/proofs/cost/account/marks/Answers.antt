@@ -3,7 +3,7 @@ use mathlib.Core.List.{map}
 use lib.ListN.{length-set}
 use Rattle.std.proofs.shelf.Lists.{at-drop-all}
 use Rattle.tariff.specs.Costs.{isOn}
-use Rattle.tariff.proofs.Steps.{write-step, write-end, map-now}
+use Rattle.commitment.proofs.Turns.{write-step, write-end, map-now}
 use Rattle.tariff.proofs.cost.account.marks.Needs as need
 
 pub loop-i-again : need.loop-i-again

@@ -3,7 +3,7 @@ use mathlib.Core.Path.{ap, _∙_}
 use Rattle.std.specs.shelf.Lists.{countBy}
 use Rattle.std.proofs.shelf.Lists.{take-all}
 use Rattle.tariff.specs.Costs.{paidStart}
-use Rattle.tariff.proofs.Steps.{count-more}
+use Rattle.tariff.proofs.Turns.{count-more}
 use Rattle.tariff.proofs.cost.account.paid_starts.Needs as need
 
 pub loop-i-again : need.loop-i-again

@@ -1,6 +1,6 @@
 use native.Mathlib.Omega.{arith}
 use mathlib.Core.Path.{sym, _∙_}
-use Rattle.tariff.proofs.Steps.{unseen-more, seen-now, unseen-end}
+use Rattle.tariff.proofs.Turns.{unseen-more, seen-now, unseen-end}
 use Rattle.tariff.proofs.cost.account.self_in.Needs as need
 
 pub returns-then-is-self-in : need.returns-then-is-self-in

@@ -1,4 +1,4 @@
-use Rattle.tariff.proofs.Steps.{Unseen}
+use Rattle.tariff.proofs.Turns.{Unseen}
 use Rattle.tariff.proofs.cost.account.self_in.Given as given
 
 abbrev pub Inv-loop-i : given.InvT-loop-i

@@ -5,8 +5,8 @@ use Rattle.std.specs.declared.option.Option.the-variants.{None}
 use Rattle.std.proofs.shelf.Lists.{getD-default}
 use Rattle.tariff.specs.declared.cost.HourKind.the-variants.{Off}
 use Rattle.tariff.specs.Costs.{costAt, hourCost}
-use Rattle.tariff.specs.Days.{counted}
-use Rattle.tariff.proofs.Sums.{sum-none, sum-more, sum-all}
+use Rattle.hours.specs.Days.{counted}
+use Rattle.hours.proofs.Sums.{sum-none, sum-more, sum-all}
 use Rattle.tariff.proofs.cost.account.sum_costs.Needs as need
 
 pub loop-i-holds : need.loop-i-holds
@@ -17,7 +17,7 @@ loop-i-again c =
     let g = c .args .generator .now in
     let hour = c .counted-hour .ensures ∙ ap counted (getD-default (c .args .slots .now) (c .loop-i .i) (c .index-slots-i .result) None (omega arith)) in
     sum-more (costAt g (c .args .kinds .now) (c .args .slots .now)) 21000000000 _ (c .plus-total .result) (c .hour-cost .result) (c .loop-i .i)
-    (record { sfits = c .plus-total .ok }) (record { sfits = c .hour-cost .ok }) (c .plus-total .ensures .value) (c .plus-total .ensures .bound)
+    (omega arith) (omega arith) (record { sfits = c .plus-total .ok }) (record { sfits = c .hour-cost .ok }) (c .plus-total .ensures .exact) (c .plus-total .ensures .bound)
     (c .hour-cost .ensures .value ∙ ap (hourCost g (getD (c .args .kinds .now) (c .loop-i .i) Off)) hour)
     (c .hour-cost .ensures .bound) (c .loop-i .inv)
 

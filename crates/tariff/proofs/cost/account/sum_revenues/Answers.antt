@@ -5,8 +5,8 @@ use Rattle.std.specs.declared.option.Option.the-variants.{None}
 use Rattle.std.proofs.shelf.Lists.{getD-default}
 use Rattle.tariff.specs.declared.cost.HourKind.the-variants.{Off}
 use Rattle.tariff.specs.Costs.{revenueAt, hourRevenue}
-use Rattle.tariff.specs.Days.{counted, priceOr0}
-use Rattle.tariff.proofs.Sums.{sum-none, sum-more, sum-all}
+use Rattle.hours.specs.Days.{counted, priceOr0}
+use Rattle.hours.proofs.Sums.{sum-none, sum-more, sum-all}
 use Rattle.tariff.proofs.cost.account.sum_revenues.Needs as need
 
 pub loop-i-holds : need.loop-i-holds
@@ -18,7 +18,7 @@ loop-i-again c =
     let hour = c .counted-hour .ensures ∙ ap counted (getD-default (c .args .slots .now) (c .loop-i .i) (c .index-slots-i .result) None (omega arith)) in
     let price = c .counted-price .ensures ∙ ap priceOr0 (getD-default (c .args .prices .now) (c .loop-i .i) (c .index-prices-i .result) None (omega arith)) in
     sum-more (revenueAt g (c .args .kinds .now) (c .args .slots .now) (c .args .prices .now)) 20000000000 _ (c .plus-total .result) (c .hour-revenue .result) (c .loop-i .i)
-    (record { sfits = c .plus-total .ok }) (record { sfits = c .hour-revenue .ok }) (c .plus-total .ensures .value) (c .plus-total .ensures .bound)
+    (omega arith) (omega arith) (record { sfits = c .plus-total .ok }) (record { sfits = c .hour-revenue .ok }) (c .plus-total .ensures .exact) (c .plus-total .ensures .bound)
     (c .hour-revenue .ensures .value ∙ (λ k. hourRevenue g (getD (c .args .kinds .now) (c .loop-i .i) Off) (hour k) (price k)))
     (c .hour-revenue .ensures .bound) (c .loop-i .inv)
 

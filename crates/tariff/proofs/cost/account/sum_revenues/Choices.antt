@@ -1,5 +1,5 @@
 use Rattle.tariff.specs.Costs.{revenueAt}
-use Rattle.tariff.proofs.Sums.{Summed}
+use Rattle.hours.proofs.Sums.{Summed}
 use Rattle.tariff.proofs.cost.account.sum_revenues.Given as given
 
 abbrev pub Inv-loop-i : given.InvT-loop-i

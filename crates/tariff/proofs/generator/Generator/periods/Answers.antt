@@ -1,8 +1,9 @@
 use borrow.Author.Needs.{needs}
-use Rattle.tariff.proofs.Commits.{self-committed}
+use mathlib.Core.Path.{subst}
+use Rattle.commitment.specs.CommitmentLaws.{SelfCommitted}
 use Rattle.tariff.proofs.generator.Generator.periods.Needs as need
 
 pub returns : need.returns
 returns c =
     let g = c .args .self .now in
-    record { value = search needs; law = self-committed (g .mrt) (g .mdt) (g .mds) _ _ (g .starts .0) }
+    record { value = search needs; law = subst (SelfCommitted (g .mrt) (g .mdt) (g .mds) (g .«carried_in»)) (c .flags .ensures) (c .periods .ensures .law (g .starts .0)) }

@@ -1,7 +1,7 @@
 use mathlib.Core.Path.{refl}
 use Rattle.std.proofs.shelf.Results.{err-from-errBy}
 use Rattle.tariff.specs.Generators.{generatorFields, generatorMade}
-use Rattle.tariff.proofs.Ranges.{made-is, refused-is}
+use Rattle.hours.proofs.Ranges.{made-is, refused-is}
 use Rattle.tariff.proofs.Made.{same-generator}
 use Rattle.tariff.proofs.Forms.{numbersOf, numbersRead, numbers-read, bounds, bounds-read}
 use Rattle.tariff.proofs.generator.Generator.register.Needs as need

@@ -1,0 +1,4 @@
+pub mod Ranges
+pub mod Made
+pub mod Sums
+pub mod Sizes

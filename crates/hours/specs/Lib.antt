@@ -1,0 +1,5 @@
+pub mod Bounds
+pub mod Ranges
+pub mod Records
+pub mod Days
+pub mod Energy

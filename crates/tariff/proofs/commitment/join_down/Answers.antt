@@ -1,7 +1,0 @@
-use Rattle.tariff.specs.Stretches.{listed}
-use Rattle.tariff.proofs.Steps.{joins-step}
-use Rattle.tariff.proofs.commitment.join_down.Needs as need
-
-pub loop-k-again : need.loop-k-again
-loop-k-again c =
-    joins-step (c .saturating-sub-surplus .result) (c .loop-k .-k) (listed (c .loop-k .periods)) _ _ (c .loop-k-test .taken) (c .join-smallest-periods .ensures) (c .loop-k .inv)
