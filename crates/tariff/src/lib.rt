@@ -4,7 +4,6 @@ mod bid;
 mod cost;
 mod generator;
 mod schedule;
-mod worked;
 
 pub use cost::HourKind;
 pub use cost::HourKindDebug;
@@ -15,4 +14,3 @@ pub use cost::start_ups;
 pub use generator::EnergyBid;
 pub use generator::Generator;
 pub use generator::GeneratorForm;
-pub use worked::worked_cases;

@@ -11,17 +11,17 @@ use tariff::Generator;
 use tariff::GeneratorForm;
 use tariff::HourKind;
 
-// A generator that is committed in hours 2 and 3, with the prices of its place.
+// A generator's day, with the prices of its place.
 #[derive(Clone, Copy)]
-pub struct WorkedDay {
-    generator: Generator,
-    hours: Day<HourRecord>,
-    prices: Day<Price>,
+pub struct GeneratorDay {
+    pub generator: Generator,
+    pub hours: Day<HourRecord>,
+    pub prices: Day<Price>,
 }
 
-impl WorkedDay {
-    // The self-schedule is that of hour 2.
-    pub fn with_self_schedule(own: i64) -> Result<WorkedDay, OutOfRange> {
+impl GeneratorDay {
+    // Committed in hour 2.
+    pub fn in_one_hour(own: i64) -> Result<GeneratorDay, OutOfRange> {
         let generator = Generator::register(
             &GeneratorForm {
                 min_load: 10_000,
@@ -38,19 +38,26 @@ impl WorkedDay {
                 b3: 5_000,
             },
         )?;
-        let second = Hour::new(2)?;
-        let third = Hour::new(3)?;
+        let hour = Hour::new(2)?;
         let mut hours = Day::empty();
-        hours.set(second, HourRecord::of_generator(20_000, 19_000, own, 1)?);
-        hours.set(third, HourRecord::of_generator(20_000, 19_000, 0, 1)?);
+        hours.set(hour, HourRecord::of_generator(20_000, 19_000, own, 1)?);
         let mut prices = Day::empty();
-        prices.set(second, Price::new(4_000, 4_500)?);
-        prices.set(third, Price::new(4_000, 4_500)?);
-        Ok(WorkedDay {
+        prices.set(hour, Price::new(4_000, 4_500)?);
+        Ok(GeneratorDay {
             generator,
             hours,
             prices,
         })
+    }
+
+    // Committed in hours 2 and 3. The self-schedule is that of hour 2.
+    pub fn in_two_hours(own: i64) -> Result<GeneratorDay, OutOfRange> {
+        let mut day = GeneratorDay::in_one_hour(own)?;
+        let hour = Hour::new(3)?;
+        day.hours
+            .set(hour, HourRecord::of_generator(20_000, 19_000, 0, 1)?);
+        day.prices.set(hour, Price::new(4_000, 4_500)?);
+        Ok(day)
     }
 
     pub fn print(&self, rt: &impl Print) -> io::Result<()> {
