@@ -10,7 +10,8 @@ use Rattle.std.proofs.shelf.Tests.{cond-both}
 use Rattle.commitment.specs.declared.stretch.Stretch.{Stretch}
 use Rattle.commitment.specs.Stretches.{covers}
 use Rattle.commitment.specs.Commitment.{limitOf, afterMrt, afterMdt, joins}
-use Rattle.commitment.specs.CommitmentLaws.{In, Flagged, HeldOn, Between, JoinedDown, SelfCommitted}
+use Rattle.commitment.specs.StretchLaws.{In}
+use Rattle.commitment.specs.CommitmentLaws.{Flagged, HeldOn, Between, JoinedDown, SelfCommitted}
 use Rattle.commitment.proofs.Holding.{held-rising, flagged-held, held-explained, held-long}
 use Rattle.commitment.proofs.Fills.{Fills, fills-rising, fills-in, fills-reach, bridged-fills, bridged-apart}
 use Rattle.commitment.proofs.Joins.{joins-down, down-few, joins-in, joins-reach}

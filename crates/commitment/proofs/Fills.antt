@@ -12,7 +12,8 @@ use Rattle.commitment.specs.declared.gaps.Choice.the-variants.{FewerThan}
 use Rattle.commitment.specs.declared.stretch.Stretch.{Stretch}
 use Rattle.commitment.specs.Stretches.{gap, gaps, gapsAfter}
 use Rattle.commitment.specs.Commitment.{join, fillFrom, fill, chosenBy, bridged}
-use Rattle.commitment.specs.CommitmentLaws.{Within, In, Between, BetweenAfter}
+use Rattle.commitment.specs.StretchLaws.{Within, In}
+use Rattle.commitment.specs.CommitmentLaws.{Between, BetweenAfter}
 use Rattle.commitment.proofs.Holding.{Rising}
 
 -- some neighbours are joined, over gaps that `Filled` holds of

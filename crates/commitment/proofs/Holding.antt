@@ -12,9 +12,10 @@ use Rattle.std.specs.declared.option.Option.{Option}
 use Rattle.std.specs.declared.option.Option.the-variants.{Some, None}
 use Rattle.std.proofs.shelf.Tests.{cases-lt, lt-ltb, le-ltb, and-from, and-right, false≢true}
 use Rattle.commitment.specs.declared.stretch.Stretch.{Stretch}
-use Rattle.commitment.specs.Stretches.{hours, stretchesFrom}
+use Rattle.commitment.specs.Stretches.{hours, gaps, gapsAfter, stretchesFrom, stretches}
 use Rattle.commitment.specs.Commitment.{heldFrom, afterMrt}
-use Rattle.commitment.specs.CommitmentLaws.{Flagged, Within, In, HeldOn}
+use Rattle.commitment.specs.StretchLaws.{Within, In, Longest}
+use Rattle.commitment.specs.CommitmentLaws.{Flagged, HeldOn}
 
 -- the hours from `first` on that lie before the hour h
 abbrev upTo : ℕ → ℕ → Stretch
@@ -156,3 +157,36 @@ module _ (mrt : ℕ) (flags : List Bool) where
 
   pub held-long : All (λ p. (mrt ≤ hours p) ⊎ (p .last ≡ length flags)) (afterMrt mrt flags)
   held-long = runs-long (idle mrt flags 1) (length flags) (omega arith)
+
+-- an hour that does not belong lies between two periods
+apart-after : (p : Stretch) (ps : List Stretch) (low : ℕ) → p .last + 2 ≤ low → Rising low ps → All (λ g. 1 ≤ g) (gaps ps) → All (λ g. 1 ≤ g) (gapsAfter p ps)
+apart-after p [] low l r all = tt
+apart-after p (q ∷ qs) low l r all = (omega arith, all)
+
+runs-apart : {mrt h : ℕ} {began : Option ℕ} {flags : List Bool} {ps : List Stretch} → Runs mrt h began flags ps → All (λ g. 1 ≤ g) (gaps ps)
+runs-apart ends-idle = tt
+runs-apart (ends-running lt) = tt
+runs-apart (idles r) = runs-apart r
+runs-apart (starts r) = runs-apart r
+runs-apart (goes-on lt why r) = runs-apart r
+runs-apart (stops {h} lt long r) = apart-after _ _ (h + 1) (omega arith) (runs-rising r (h + 1) (omega arith)) (runs-apart r)
+
+-- Without a minimum run time an hour belongs if it is marked, so that the same holds of the stretches of any marks.
+held-nothing : (ran : ℕ) (marks : List Bool) → heldFrom 0 ran marks ≡ marks
+held-nothing ran [] = refl
+held-nothing ran (true ∷ rest) = ap (λ bs. true ∷ bs) (held-nothing (ran + 1) rest)
+held-nothing ran (false ∷ rest) =
+    let off = and-right (ltb 0 ran) (ltb ran 0) (le-ltb ran 0 (omega arith)) in
+    ap (λ b. b ∷ heldFrom 0 (cond b (ran + 1) 0) rest) off ∙ ap (λ bs. false ∷ bs) (held-nothing 0 rest)
+
+not-held : (ps : List Stretch) (h : ℕ) → HeldOn 0 ps h → ⊥
+not-held [] h x = x
+not-held (p ∷ ps) h (inl on) = omega arith
+not-held (p ∷ ps) h (inr x) = not-held ps h x
+
+pub longest : (marks : List Bool) → Longest marks (stretches marks)
+longest marks = subst (λ bs. Longest marks (stretches bs)) (held-nothing 0 marks) (record {
+  marked-hours-lie-in-one = flagged-held 0 marks;
+  their-hours-are-marked = λ h i. ⊎-elim (λ f. f) (λ on. absurd (not-held _ h on)) (held-explained 0 marks h i);
+  an-hour-lies-between = runs-apart (idle 0 marks 1);
+})

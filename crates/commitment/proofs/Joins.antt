@@ -14,7 +14,8 @@ use Rattle.commitment.specs.declared.gaps.Gap.{Gap}
 use Rattle.commitment.specs.declared.stretch.Stretch.{Stretch}
 use Rattle.commitment.specs.Stretches.{gap, gaps, gapsAfter}
 use Rattle.commitment.specs.Commitment.{join, fillFrom, fill, chosenBy, smallestFrom, joined, joinedAt, joins}
-use Rattle.commitment.specs.CommitmentLaws.{In, Joined, JoinedDown, few-enough, too-many}
+use Rattle.commitment.specs.StretchLaws.{In}
+use Rattle.commitment.specs.CommitmentLaws.{Joined, JoinedDown, few-enough, too-many}
 use Rattle.commitment.proofs.Holding.{Rising}
 use Rattle.commitment.proofs.Fills.{Fills, empty, single, fill-fills, fills-rising, fills-in, AnySize, Reach, fills-reach}
 

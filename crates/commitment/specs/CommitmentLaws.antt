@@ -1,7 +1,6 @@
 -- What the three steps of self-commitment come to, in the words of the rules.
 --
 --   Flagged        the hour's self-schedule is above zero
---   In             the hour lies in one of the periods
 --   Between        the hour lies in a gap between two neighbours, of a size that `Size` holds of
 --   HeldOn         the period that the hour lies in began fewer than MRT hours earlier
 --   Joined         one join: the two neighbours with the smallest gap, the earliest on a tie
@@ -12,21 +11,15 @@ use mathlib.Core.Bool.{Bool, true, false}
 use mathlib.Core.List.{List, [], _∷_, _++_}
 use mathlib.Core.Logic.{_⊎_}
 use Prim.Native.Nat.{ℕ, _+_, _-_, _<_, _≤_}
-use lib.ListN.{length, getD}
+use lib.ListN.{length}
 use Rattle.std.specs.shelf.Lists.{All}
 use Rattle.commitment.specs.declared.stretch.Stretch.{Stretch}
 use Rattle.commitment.specs.Stretches.{hours, gap, gaps}
+use Rattle.commitment.specs.StretchLaws.{Marked, Within, In}
 use Rattle.commitment.specs.Commitment.{join, limitOf, afterMrt, afterMdt, periods}
 
 abbrev pub Flagged : List Bool → ℕ → Type 0
-Flagged flags h = (1 ≤ h) × (getD flags (h - 1) false ≡ true)
-
-abbrev pub Within : Stretch → ℕ → Type 0
-Within p h = (p .first ≤ h) × (h ≤ p .last)
-
-abbrev pub In : List Stretch → ℕ → Type 0
-In [] h = ⊥
-In (p ∷ ps) h = Within p h ⊎ In ps h
+Flagged flags h = Marked flags h
 
 abbrev pub BetweenAfter : (ℕ → Type 0) → Stretch → List Stretch → ℕ → Type 0
 BetweenAfter Size p [] h = ⊥

@@ -1,3 +1,4 @@
 pub mod Stretches
+pub mod StretchLaws
 pub mod Commitment
 pub mod CommitmentLaws

@@ -4,6 +4,7 @@ ghost use mathlib.Core.List.{[]};
 ghost use Prim.Native.Nat.{_≤_};
 ghost use lib.Dec.{leb};
 ghost use lib.ListN.{length};
+ghost use Rattle.commitment.specs.StretchLaws.{Longest};
 ghost use Rattle.commitment.specs.Stretches.{listed, added, ended, going, stretches, covers, gap};
 use super::Stretch;
 use super::Stretches;
@@ -96,7 +97,8 @@ fn going_at(hour: u8, began: Option<u8>, marked: bool) -> Option<u8>
 impl Stretches {
     // The longest stretches of marked hours.
     pub fn of(marks: &[bool; 24]) -> Stretches
-        ensures { λ r. ⌜ listed r ≡ stretches (now (marks .entry)) ⌝ }
+        ensures value { λ r. ⌜ listed r ≡ stretches (now (marks .entry)) ⌝ }
+        ensures law { λ r. ⌜ Longest (now (marks .entry)) (listed r) ⌝ }
     {
         let mut found = Stretches::none();
         let mut began = None;

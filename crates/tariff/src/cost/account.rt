@@ -8,6 +8,7 @@ ghost use lib.ListN.{length};
 ghost use Rattle.std.specs.shelf.Lists.{countBy};
 ghost use Rattle.money.specs.Amounts.{orZero};
 ghost use Rattle.money.specs.Rounding.{rounded};
+ghost use Rattle.commitment.specs.StretchLaws.{Longest};
 ghost use Rattle.commitment.specs.Stretches.{listed};
 ghost use Rattle.tariff.specs.Costs.{isOn, isSelfCommitted, kindsFrom, kinds, runs, selfIn, paidStart, startUps, costs, revenues, costOf, bidCost, revenue, uplift, Uplifted};
 use super::HourKind;
@@ -65,7 +66,8 @@ fn marks(kinds: &[HourKind; 24]) -> [bool; 24]
 
 // The runs of a day: the longest stretches of hours that are on.
 pub fn runs(kinds: &[HourKind; 24]) -> Stretches
-    ensures { λ r. ⌜ listed r ≡ runs (now (kinds .entry)) ⌝ }
+    ensures value { λ r. ⌜ listed r ≡ runs (now (kinds .entry)) ⌝ }
+    ensures law { λ r. ⌜ Longest (map isOn (now (kinds .entry))) (listed r) ⌝ }
 {
     Stretches::of(&marks(kinds))
 }

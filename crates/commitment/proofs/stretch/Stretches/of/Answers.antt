@@ -1,5 +1,8 @@
 use native.Mathlib.Omega.{arith}
+use mathlib.Core.Path.{sym, subst}
+use Rattle.commitment.specs.StretchLaws.{Longest}
 use Rattle.commitment.specs.Stretches.{listed}
+use Rattle.commitment.proofs.Holding.{longest}
 use Rattle.commitment.proofs.Scans.{scan-more, scan-end}
 use Rattle.commitment.proofs.stretch.Stretches.of.Needs as need
 
@@ -10,5 +13,7 @@ loop-i-again c =
 
 pub returns : need.returns
 returns c =
+    let value =
     scan-end (c .args .marks .now) (listed (c .loop-i .found)) _ (c .loop-i .began) (c .loop-i .i) (c .ended-at-2 .result)
-    (c .told-marks) (omega arith) (c .ended-at-2 .ensures) (c .add-2 .ensures) (c .loop-i .inv)
+    (c .told-marks) (omega arith) (c .ended-at-2 .ensures) (c .add-2 .ensures) (c .loop-i .inv) in
+    record { value = value; law = subst (Longest (c .args .marks .now)) (sym value) (longest (c .args .marks .now)) }
