@@ -1,0 +1,5 @@
+pub mod Laws
+mod Scans
+mod Positions
+mod Replies
+mod Writes
