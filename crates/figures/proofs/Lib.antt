@@ -1,0 +1,4 @@
+pub mod Adding
+pub mod Exchange
+pub mod First
+pub mod Rows
