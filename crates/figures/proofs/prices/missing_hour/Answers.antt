@@ -14,7 +14,7 @@ returns-then-is-unpriced c =
     let i = c .loop-i .i in
     let slot = getD-default (c .args .slots .now) i (c .index-slots-i .result) None (omega arith) in
     let price = getD-default (c .args .prices .now) i (c .index-prices-i .result) None (omega arith) in
-    sym (answered (hourIf (unpriced (c .args .slots .now) (c .args .prices .now))) hoursBefore i i (omega (arith, hour-count)) (hour-at i (c .loop-i-test .taken)) (c .loop-i .inv)
+    sym (answered (hourIf (unpriced (c .args .slots .now) (c .args .prices .now))) hoursBefore i i (omega (arith, hour-count)) (hour-at i (omega arith)) (c .loop-i .inv)
     _ (cond-true _ _ _ (sym (c .if-is-unpriced .ensures tt ∙ (λ k. isSome (slot k) && not (isSome (price k)))))))
 
 pub loop-i-again : need.loop-i-again
@@ -22,7 +22,7 @@ loop-i-again c =
     let i = c .loop-i .i in
     let slot = getD-default (c .args .slots .now) i (c .index-slots-i .result) None (omega arith) in
     let price = getD-default (c .args .prices .now) i (c .index-prices-i .result) None (omega arith) in
-    passed (hourIf (unpriced (c .args .slots .now) (c .args .prices .now))) hoursBefore i i (omega (arith, hour-count)) (hour-at i (c .loop-i-test .taken)) (c .loop-i .inv)
+    passed (hourIf (unpriced (c .args .slots .now) (c .args .prices .now))) hoursBefore i i (omega (arith, hour-count)) (hour-at i (omega arith)) (c .loop-i .inv)
     (cond-false _ _ _ (sym (c .if-is-unpriced .ensures tt ∙ (λ k. isSome (slot k) && not (isSome (price k))))))
 
 pub returns : need.returns
