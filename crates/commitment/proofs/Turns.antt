@@ -1,14 +1,11 @@
 -- The loops of a day, turn by turn.
-use Rattle.std.proofs.Common.{◌≡◌, ℕ, suc, ◌+◌, ◌-◌, ◌<◌, ◌≤◌, Bool, true, false, cond, ◌&&◌, ◌||◌, leb, List, [], ◌∷◌, ◌++◌, map, length, get_or, take, drop, set, Some, None, count_by, Option, sym, refl, ap, ◌∙◌, append_assoc, append-nil, arith, length-append}
-use mir.Val.{bool_byte}
+use Rattle.std.proofs.Common.{◌≡◌, ℕ, suc, ◌+◌, ◌-◌, ◌<◌, ◌≤◌, Bool, true, false, cond, List, [], ◌∷◌, ◌++◌, map, length, get_or, take, drop, set, Some, None, Option, sym, refl, ap, ◌∙◌, append_assoc, append-nil, arith, length-append}
 use Rattle.std.specs.Option.{option_to_list}
-use Rattle.std.proofs.lemmas.List.Sums.{sum_by_more}
-use Rattle.std.proofs.lemmas.Bool.{cond_both}
 use Rattle.std.proofs.lemmas.List.{take_more_set, take_all, at_drop_more, at_drop_all}
 use Rattle.commitment.specs.declared.gaps.Choice.TheVariants.{Number}
 use Rattle.commitment.specs.declared.gaps.Gap.{Gap}
 use Rattle.commitment.specs.declared.stretch.Stretch.{Stretch}
-use Rattle.commitment.specs.Stretches.{added, covers, gap, gaps_after, gaps}
+use Rattle.commitment.specs.Stretches.{added, gap, gaps_after, gaps}
 use Rattle.commitment.specs.Commitment.{stays, held_from, join, fill_from, fill, chosen_by, smaller, smallest_from, smallest, joined_at, joined, joins}
 use Rattle.commitment.proofs.Scans.{added-all}
 

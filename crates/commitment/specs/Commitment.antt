@@ -10,7 +10,7 @@
 --   joined     the two periods with that gap are joined
 --   limit_of   how many periods may remain
 --   periods    all three steps in order
-use Rattle.std.specs.Prelude.{ℕ, zero, suc, ◌+◌, ◌-◌, Bool, true, false, cond, ◌&&◌, ◌||◌, List, [], ◌∷◌, length, Some, None, Option, ◌==◌, nat_lt}
+use Rattle.std.specs.Prelude.{ℕ, zero, suc, ◌+◌, ◌-◌, Bool, cond, ◌&&◌, ◌||◌, List, [], ◌∷◌, length, Some, None, Option, ◌==◌, nat_lt}
 use Rattle.commitment.specs.declared.gaps.Choice.{Choice}
 use Rattle.commitment.specs.declared.gaps.Choice.TheVariants.{FewerThan, Number}
 use Rattle.commitment.specs.declared.gaps.Gap.{Gap}

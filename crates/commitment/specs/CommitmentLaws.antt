@@ -6,7 +6,7 @@
 --   Joined          one join: the two neighbours with the smallest gap, the earliest on a tie
 --   JoinedDown      joins, while there are more periods than the limit
 --   SelfCommitted   the laws of a day
-use Rattle.std.specs.Prelude.{◌≡◌, ℕ, ◌+◌, ◌-◌, ◌<◌, ◌≤◌, Bool, true, false, ◌⊎◌, List, [], ◌∷◌, ◌++◌, length}
+use Rattle.std.specs.Prelude.{◌≡◌, ℕ, ◌+◌, ◌<◌, ◌≤◌, Bool, ◌⊎◌, List, [], ◌∷◌, ◌++◌, length}
 use Rattle.std.specs.List.{AllByRecursion as All}
 use Rattle.commitment.specs.declared.stretch.Stretch.{Stretch}
 use Rattle.commitment.specs.Stretches.{hours, gap, gaps}

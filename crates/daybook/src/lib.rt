@@ -1,5 +1,7 @@
 // The day book: the records that stand for one trading day, the calls that change them, and the questions that it answers.
 
+#![tactic(auto)]
+
 mod book;
 mod id;
 

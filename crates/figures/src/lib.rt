@@ -1,6 +1,8 @@
 // What a day's standing records come to: energy and uplift, the rows that sharing rules are told, and the two pots, or the
 // price that is missing for them.
 
+#![tactic(auto)]
+
 mod keys;
 mod members;
 mod pots;

@@ -1,11 +1,11 @@
 -- The check of a list of fields, field by field, and a value made of fields that all fit.
-use Rattle.std.proofs.Common.{◌≡◌, ℕ, ◌+◌, ◌<◌, ◌≤◌, Bool, true, false, cond, ◌&&◌, List, [], ◌∷◌, length, get_or, drop, Ok, Err, Result, sym, refl, ap, ◌∙◌}
+use Rattle.std.proofs.Common.{◌≡◌, ℕ, ◌+◌, ◌<◌, ◌≤◌, true, false, ◌&&◌, List, length, get_or, drop, Ok, Err, Result, sym, refl, ap, ◌∙◌}
 use mathlib.Core.Path.{path_j'}
 use Rattle.std.proofs.lemmas.List.{at_drop_more, at_drop_all}
 use Rattle.std.proofs.lemmas.Bool.{cond-true, cond-false, and_left}
 use Rattle.hours.specs.declared.range.Field.{Field}
 use Rattle.hours.specs.declared.range.OutOfRange.{OutOfRange}
-use Rattle.hours.specs.Ranges.{fits, all_fit, first_out, out_of_range, checked, when_true, made, Inside, Outside}
+use Rattle.hours.specs.Ranges.{fits, all_fit, first_out, out_of_range, when_true, made, Inside, Outside}
 
 -- the check before field i: those to come decide
 abbrev pub Unchecked : List Field → ℕ → Type 0

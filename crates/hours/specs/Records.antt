@@ -3,7 +3,7 @@
 --   generator_hour   a generator's: schedule, meter, self-schedule, commitment
 --   load_hour        a load's: schedule and meter
 --   price_of         day-ahead and real time
-use Rattle.std.specs.Prelude.{◌≡◌, true, false, List, [], ◌∷◌, ℤ, pos, negsuc, neg_ℤ, Result, int_lt, unsigned_abs}
+use Rattle.std.specs.Prelude.{◌≡◌, true, false, List, [], ◌∷◌, ℤ, pos, neg_ℤ, Result, int_lt, unsigned_abs}
 use Rattle.std.proofs.Common.{arith}
 use Rattle.std.proofs.lemmas.Int.{ints}
 use Rattle.hours.specs.declared.range.Field.{Field}

@@ -1,5 +1,7 @@
 // What is entered for an hour, the twenty-four slots of a day, and what they come to in energy, demand and deviation.
 
+#![tactic(auto)]
+
 mod day;
 mod energy;
 mod range;

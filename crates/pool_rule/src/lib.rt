@@ -1,5 +1,7 @@
 // A pool that cannot edit `sharing`: a rule of its own with its law proved, and the piles of rules that it shares by.
 
+#![tactic(auto)]
+
 mod equal_parts;
 mod piles;
 #[cfg(test)]

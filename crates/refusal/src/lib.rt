@@ -1,5 +1,7 @@
 // What a refused call answers: the cause as a case with its values, and the number and two details it is printed by.
 
+#![tactic(auto)]
+
 mod cause;
 mod kinds;
 

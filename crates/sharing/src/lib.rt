@@ -1,5 +1,7 @@
 // A total in cents shared among the members of a pool, to the last cent: the law that every sharing rule keeps, and our rules.
 
+#![tactic(auto)]
+
 mod admission;
 mod by_demand;
 mod capped;

@@ -1,5 +1,7 @@
 // Entries by rising key, in memory that the caller lends.
 
+#![tactic(auto)]
+
 mod key;
 mod table;
 

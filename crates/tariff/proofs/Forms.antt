@@ -1,5 +1,5 @@
 -- A generator as registering makes it: each number of the form, narrowed and read back, is the number of the form.
-use Rattle.std.proofs.Common.{◌≡◌, ℕ, ◌^◌, ◌<◌, ◌≤◌, true, ℤ, pos, nat_abs, sym, ap, ◌∙◌, subst, arith, w32, w64, to_z, of_z}
+use Rattle.std.proofs.Common.{◌≡◌, ◌^◌, ◌<◌, true, ℤ, pos, nat_abs, sym, ap, ◌∙◌, subst, arith, w32, w64, to_z, of_z}
 use lib.Signed.{lt_z}
 use Rattle.std.proofs.lemmas.Int.{ints, to_z-of_z}
 use Rattle.money.proofs.Products.{fits-abs}

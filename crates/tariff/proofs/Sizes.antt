@@ -1,5 +1,5 @@
 -- How large the amounts of an hour can be.
-use Rattle.std.proofs.Common.{◌≡◌, ℕ, ◌+◌, ◌-◌, ◌*◌, ◌≤◌, ℤ, pos, negsuc, ◌+ℤ◌, nat_abs, arith}
+use Rattle.std.proofs.Common.{◌-◌, ◌*◌, ◌≤◌, pos, nat_abs, arith}
 use Rattle.money.specs.Amounts.{or_zero}
 use Rattle.money.proofs.Products.{abs-mul-le, abs-add-le}
 use Rattle.money.proofs.Rounds.{or_zero-size}

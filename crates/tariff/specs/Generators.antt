@@ -2,11 +2,10 @@
 --
 --   generator_fields   the twelve numbers in their order, each with its range
 --   generator_of       the generator, or the first number out of range
-use Rattle.std.specs.Prelude.{◌≡◌, ◌≤◌, Bool, true, false, T, List, [], ◌∷◌, ℤ, pos, neg_ℤ, Result, int_lt, unsigned_abs, refl}
+use Rattle.std.specs.Prelude.{◌≡◌, ◌≤◌, Bool, true, false, T, List, [], ◌∷◌, pos, neg_ℤ, Result, int_lt, unsigned_abs, refl}
 use Rattle.std.proofs.Common.{arith}
 use Rattle.std.proofs.lemmas.Int.{ints}
 use Rattle.tariff.specs.declared.generator.GeneratorForm.{GeneratorForm}
-use Rattle.tariff.specs.declared.generator.EnergyBid.{EnergyBid}
 use Rattle.tariff.specs.declared.generator.Generator.{Generator}
 use Rattle.hours.specs.declared.range.Field.{Field}
 use Rattle.hours.specs.declared.range.OutOfRange.{OutOfRange}

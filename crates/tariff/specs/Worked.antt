@@ -10,7 +10,6 @@ use Rattle.std.specs.Prelude.{◌≡◌, ℕ, Bool, true, false, ◌||◌, List,
 use Rattle.std.specs.List.{range_with_len}
 use Rattle.money.specs.Rounding.{rounded}
 use Rattle.tariff.specs.declared.generator.Generator.{Generator}
-use Rattle.tariff.specs.declared.generator.GeneratorForm.{GeneratorForm}
 use Rattle.hours.specs.declared.range.OutOfRange.{OutOfRange}
 use Rattle.hours.specs.declared.records.HourRecord.{HourRecord}
 use Rattle.hours.specs.declared.records.Price.{Price}

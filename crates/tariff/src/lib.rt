@@ -1,5 +1,7 @@
 // One generator's day by the tariff: the energy bid, self-commitment, bid cost, revenue and uplift.
 
+#![tactic(auto)]
+
 mod bid;
 mod cost;
 mod generator;

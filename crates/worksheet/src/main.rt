@@ -1,5 +1,7 @@
 // The sheet that a clerk checks by hand: a generator's day, hour by hour, and how a pool's two pots are shared.
 
+#![tactic(auto)]
+
 mod cents;
 mod day;
 mod fault;

@@ -8,10 +8,10 @@ use crate::table::{Refused, Table};
 
 impl<'a, E: Keyed + Copy> Table<'a, E> {
     pub fn insert(&mut self, item: E) -> Result<(), Refused>
-        ensures reply { result ≡ insert_reply key item (entries self.old) (room self.old) }
-        ensures after { entries self.new ≡ insert_after key item (entries self.old) (room self.old) }
-        ensures lookups { (k : ℕ) → lookup key k (entries self.new) ≡ lookup_after key (is_ok result) item (entries self.old) k }
-        ensures keeps { Rising key (entries self.old) → Rising key (entries self.new) }
+        ensures reply { result ≡ insert_reply E.key item (entries self.old) (room self.old) }
+        ensures after { entries self.new ≡ insert_after E.key item (entries self.old) (room self.old) }
+        ensures lookups { (k : ℕ) → lookup E.key k (entries self.new) ≡ lookup_after E.key (is_ok result) item (entries self.old) k }
+        ensures keeps { Rising E.key (entries self.old) → Rising E.key (entries self.new) }
         ensures room { room self.new ≡ room self.old }
     {
         if self.find(item.key()).is_some() {
@@ -29,11 +29,11 @@ impl<'a, E: Keyed + Copy> Table<'a, E> {
 
     // The entry that has the key of this one is exchanged for it.
     pub fn replace(&mut self, item: E) -> bool
-        ensures reply { result ≡ is_some (lookup key (key item) (entries self.old)) }
-        ensures after { entries self.new ≡ replaced key item (entries self.old) }
-        ensures lookups { (k : ℕ) → lookup key k (entries self.new) ≡ lookup_after key result item (entries self.old) k }
-        ensures keys { map key (entries self.new) ≡ map key (entries self.old) }
-        ensures keeps { Rising key (entries self.old) → Rising key (entries self.new) }
+        ensures reply { result ≡ is_some (lookup E.key (E.key item) (entries self.old)) }
+        ensures after { entries self.new ≡ replaced E.key item (entries self.old) }
+        ensures lookups { (k : ℕ) → lookup E.key k (entries self.new) ≡ lookup_after E.key result item (entries self.old) k }
+        ensures keys { map E.key (entries self.new) ≡ map E.key (entries self.old) }
+        ensures keeps { Rising E.key (entries self.old) → Rising E.key (entries self.new) }
         ensures room { room self.new ≡ room self.old }
     {
         match self.find(item.key()) {
@@ -47,10 +47,10 @@ impl<'a, E: Keyed + Copy> Table<'a, E> {
 
     // All entries are exchanged for others that have the same keys.
     pub fn overwrite(&mut self, others: &[E]) -> bool
-        ensures reply { result ≡ same_keys key others.now (entries self.old) }
-        ensures after { entries self.new ≡ rewritten key others.now (entries self.old) }
-        ensures keys { map key (entries self.new) ≡ map key (entries self.old) }
-        ensures keeps { Rising key (entries self.old) → Rising key (entries self.new) }
+        ensures reply { result ≡ same_keys E.key others.now (entries self.old) }
+        ensures after { entries self.new ≡ rewritten E.key others.now (entries self.old) }
+        ensures keys { map E.key (entries self.new) ≡ map E.key (entries self.old) }
+        ensures keeps { Rising E.key (entries self.old) → Rising E.key (entries self.new) }
         ensures room { room self.new ≡ room self.old }
     {
         let held = self.all();

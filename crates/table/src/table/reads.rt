@@ -50,13 +50,13 @@ impl<'a, E> Table<'a, E> {
 
 impl<'a, E: Keyed + Copy> Table<'a, E> {
     pub fn find(&self, wanted: E::Key) -> Option<usize>
-        ensures { result ≡ position key (E.Key.Rank.rank wanted) (entries self.now) }
+        ensures { result ≡ position E.key (E.Key.Rank.rank wanted) (entries self.now) }
     {
         position(self.all(), wanted)
     }
 
     pub fn get(&self, wanted: E::Key) -> Option<E>
-        ensures { result ≡ lookup key (E.Key.Rank.rank wanted) (entries self.now) }
+        ensures { result ≡ lookup E.key (E.Key.Rank.rank wanted) (entries self.now) }
     {
         let rows = self.all();
         match position(rows, wanted) {

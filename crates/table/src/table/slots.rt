@@ -4,7 +4,7 @@ ghost use Rattle.table.specs.Entries.{position, inserted, same_keys};
 use crate::key::{Keyed, Rank};
 
 pub(crate) fn position<E: Keyed>(rows: &[E], wanted: E::Key) -> Option<usize>
-    ensures { result ≡ position key (E.Key.Rank.rank wanted) rows.now }
+    ensures { result ≡ position E.key (E.Key.Rank.rank wanted) rows.now }
 {
     for (i, row) in rows.iter().enumerate() {
         if row.key().same(&wanted) {
@@ -17,7 +17,7 @@ pub(crate) fn position<E: Keyed>(rows: &[E], wanted: E::Key) -> Option<usize>
 // Where an entry goes: before the first whose key is not below its own.
 pub(crate) fn place<E: Keyed + Copy>(rows: &[E], item: E) -> usize
     ensures within { result ≤ length rows.now }
-    ensures splits { inserted key item rows.now ≡ take result rows.now ++ (item ∷ drop result rows.now) }
+    ensures splits { inserted E.key item rows.now ≡ take result rows.now ++ (item ∷ drop result rows.now) }
 {
     for (i, row) in rows.iter().enumerate() {
         if !row.key().below(&item.key()) {
@@ -51,7 +51,7 @@ pub(crate) fn put_front<E: Copy>(slots: &mut [E], rows: &[E])
 }
 
 pub(crate) fn same_keys<E: Keyed>(rows: &[E], others: &[E]) -> bool
-    ensures { result ≡ same_keys key rows.now others.now }
+    ensures { result ≡ same_keys E.key rows.now others.now }
 {
     if rows.len() != others.len() {
         return false;

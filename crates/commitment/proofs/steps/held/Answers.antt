@@ -6,10 +6,10 @@ use Rattle.commitment.proofs.steps.held.Goals as goal
 
 pub loop-i-preserved : goal.loop-i-preserved
 loop-i-preserved c = (
-  write_step c.loop-i.out c.loop-i.i c.stays-on-on.result _ _ _ (omega arith)
-      (held_now c.args.mrt c.loop-i.ran _ c.loop-i.i c.args.flags.now c.stays-on-on.result (omega arith) c.stays-on-on.ensures c.ran-on-ran.ensures)
+  write_step c.loop-i.out c.loop-i.i c.stays_on-on.result _ _ _ (omega arith)
+      (held_now c.args.mrt c.loop-i.ran _ c.loop-i.i c.args.flags.now c.stays_on-on.result (omega arith) c.stays_on-on.ensures c.ran_on-ran.ensures)
       c.loop-i.invariant.0,
-  one_longer c.stays-on-on.result c.loop-i.ran c.loop-i.i _ c.ran-on-ran.ensures c.loop-i.invariant.1,
+  one_longer c.stays_on-on.result c.loop-i.ran c.loop-i.i _ c.ran_on-ran.ensures c.loop-i.invariant.1,
   simp length-set (omega arith),
 )
 

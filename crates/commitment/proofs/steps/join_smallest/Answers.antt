@@ -4,4 +4,4 @@ use Rattle.commitment.proofs.steps.join_smallest.Goals as goal
 
 pub returns-in-Some : goal.returns-in-Some
 returns-in-Some c =
-    join-at (listed c.args.periods.now) _ _ _ c.in-Some.gap c.as-slice.ensures.value c.as-slice-in-Some.ensures.value c.in-Some.ensures c.fill.ensures
+    join-at (listed c.args.periods.now) _ _ _ c.in-Some.gap c.as_slice.ensures.value c.as_slice-in-Some.ensures.value c.in-Some.ensures c.fill.ensures

@@ -7,9 +7,9 @@ use Rattle.figures.proofs.members.sum_energy.Goals as goal
 pub loop-resource-preserved : goal.loop-resource-preserved
 loop-resource-preserved c =
     let f = part amounts (counts c.args.member) (resource_energy c.args.places.now) in
-    let sum = exactly 1440000000 _ c.plus-total.result c.energy-for.result (omega arith) (omega arith) (record { sfits = c.plus-total.type-inv }) (record { sfits = c.energy-for.type-inv }) c.plus-total.ensures.exact c.plus-total.ensures.bound c.energy-for.ensures.bound in
-    add-more amounts f 1440000000 c.args.resources.now _ c.loop-resource.resource-index c.loop-resource.invariant c.resource-item.result c.energy-for.result _ c.loop-resource-test.true c.resource-item.is
-    c.energy-for.ensures.value sum.0 sum.1
+    let sum = exactly 1440000000 _ c.plus-total.result c.energy_for.result (omega arith) (omega arith) (record { sfits = c.plus-total.type_inv }) (record { sfits = c.energy_for.type_inv }) c.plus-total.ensures.exact c.plus-total.ensures.bound c.energy_for.ensures.bound in
+    add-more amounts f 1440000000 c.args.resources.now _ c.loop-resource.resource-index c.loop-resource.invariant c.resource-item.result c.energy_for.result _ c.loop-resource-test.true c.resource-item.is
+    c.energy_for.ensures.value sum.0 sum.1
 
 pub returns : goal.returns
 returns c =

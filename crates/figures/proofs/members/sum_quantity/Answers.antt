@@ -7,8 +7,8 @@ use Rattle.figures.proofs.members.sum_quantity.Goals as goal
 pub loop-resource-preserved : goal.loop-resource-preserved
 loop-resource-preserved c =
     let f = part quantities (counts c.args.member) (quantity c.args.which c.args.places.now) in
-    add-more quantities f (most c.args.which) c.args.resources.now c.loop-resource.total c.loop-resource.resource-index c.loop-resource.invariant c.resource-item.result c.quantity-for-total.result _ c.loop-resource-test.true c.resource-item.is
-    c.quantity-for-total.ensures.value refl (omega (arith, c.quantity-for-total.ensures.bound))
+    add-more quantities f (most c.args.which) c.args.resources.now c.loop-resource.total c.loop-resource.resource-index c.loop-resource.invariant c.resource-item.result c.quantity_for-total.result _ c.loop-resource-test.true c.resource-item.is
+    c.quantity_for-total.ensures.value refl (omega (arith, c.quantity_for-total.ensures.bound))
 
 pub returns : goal.returns
 returns c =

@@ -15,7 +15,7 @@ returns-in-Some c =
 pub loop-resource-preserved : goal.loop-resource-preserved
 loop-resource-preserved c =
     passed (asking (counts c.args.member) (resource_missing c.args.places.now)) c.args.resources.now c.loop-resource.resource-index c.resource-item.result c.loop-resource-test.true c.resource-item.is c.loop-resource.invariant
-    (sym c.missing-price-for.ensures ∙ c.in-default.is)
+    (sym c.missing_price_for.ensures ∙ c.in_default.is)
 
 pub returns : goal.returns
 returns c =

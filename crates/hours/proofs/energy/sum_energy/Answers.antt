@@ -13,7 +13,7 @@ loop-i-preserved c =
     let hour = c.counted-hour.ensures ∙ ap counted (get_or_default c.args.slots.now c.loop-i.i c.index-slots-i.result None (omega arith)) in
     let price = c.counted-price.ensures ∙ ap price_or0 (get_or_default c.args.prices.now c.loop-i.i c.index-prices-i.result None (omega arith)) in
     sum_more (energy_at c.args.slots.now c.args.prices.now) 60000000 _ c.plus-total.result c.energy.result c.loop-i.i
-    (omega arith) (omega arith) (record { sfits = c.plus-total.type-inv }) (record { sfits = c.energy.type-inv }) c.plus-total.ensures.exact c.plus-total.ensures.bound
+    (omega arith) (omega arith) (record { sfits = c.plus-total.type_inv }) (record { sfits = c.energy.type_inv }) c.plus-total.ensures.exact c.plus-total.ensures.bound
     (c.energy.ensures.value ∙ (λ k. hour_energy (hour k) (price k)))
     c.energy.ensures.bound c.loop-i.invariant
 

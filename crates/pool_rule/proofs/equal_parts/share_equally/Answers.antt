@@ -8,7 +8,7 @@ use Rattle.pool_rule.proofs.equal_parts.share_equally.Goals as goal
 pub loop-i-preserved : goal.loop-i-preserved
 loop-i-preserved c =
     let next = ap (parts_from c.divided-even.result.0 c.loop-i.left) (drop_more c.args.rows.now c.loop-i.i blank c.loop-i-test.true) in
-    filling_more c.loop-i.invariant (omega (arith, c.requires.room)) (cc (next, c.part-of.ensures, c.left-after-left.ensures))
+    filling_more c.loop-i.invariant (omega (arith, c.requires.room)) (cc (next, c.part_of.ensures, c.left_after-left.ensures))
 
 pub returns : goal.returns
 returns c =

@@ -3,8 +3,8 @@ use Rattle.sharing.specs.Both.{both-more, both-done_left}
 use Rattle.sharing.specs.Filling.{filling_more, filling_all, filling_read, filling_within}
 use Rattle.sharing.proofs.capped.add_each.Goals as goal
 
-pub overflow-add-shares : goal.overflow-add-shares
-overflow-add-shares c =
+pub overflow_add-shares : goal.overflow_add-shares
+overflow_add-shares c =
     let i = c.loop-i.i in
     let own = c.args.own.now in
     let next = both-more ◌+◌ own c.args.shares.now i (get_or c.loop-i.shares i 0 + get_or own i 0) c.loop-i-test.true (omega (arith, c.requires.room)) (omega (arith, filling_read c.loop-i.invariant)) in

@@ -22,8 +22,8 @@ borne-more : (c : goal.After-min-amount)
     ≡ c.min-amount.result + sum (both_from min c.args.amounts.now (caps c.args.rate c.args.rows.now) (c.loop-i.i + 1))
 borne-more c = ap sum (next c) ∙ sum-cons c.min-amount.result (both_from min c.args.amounts.now (caps c.args.rate c.args.rows.now) (c.loop-i.i + 1))
 
-pub overflow-add-borne : goal.overflow-add-borne
-overflow-add-borne c =
+pub overflow_add-borne : goal.overflow_add-borne
+overflow_add-borne c =
     let small : c.loop-i.borne + c.min-amount.result ≤ 50000000000 = omega (arith, borne-more c, c.requires.fits) in
     search rules
 

@@ -1,7 +1,7 @@
 use Rattle.std.proofs.Common.{ℕ, sym, ap, subst, arith}
 use Rattle.std.proofs.lemmas.List.{drop_more, drop_all}
 use Rattle.std.proofs.lemmas.List.Sums.{sum_by-drop_more}
-use Rattle.sharing.specs.ProRata.{part, pro_rata_from, UpTo}
+use Rattle.sharing.specs.ProRata.{pro_rata_from, UpTo}
 use Rattle.sharing.specs.Filling.{filling_more, filling_all}
 use Rattle.sharing.specs.Quotients.{written_up_to}
 use Rattle.sharing.proofs.weights.pro_rata.Goals as goal

@@ -5,7 +5,7 @@ use Rattle.tariff.proofs.bid.step_cost.Goals as goal
 
 pub returns : goal.returns
 returns c =
-    let f : SFits w64 c.cost.result = record { sfits = c.cost.type-inv } in
+    let f : SFits w64 c.cost.result = record { sfits = c.cost.type_inv } in
     let g = c.ranges.price in
     let e : to_z w64 (of_z w64 c.cost.result) ≡ pos c.args.kwh *ℤ c.args.price = to_z-of_z w64 _ f ∙ simp to_z-of_z at c.cost.ensures in
     record {

@@ -6,8 +6,8 @@ use Rattle.tariff.proofs.schedule.flags.Goals as goal
 
 pub loop-i-preserved : goal.loop-i-preserved
 loop-i-preserved c = (
-  write_step c.loop-i.out c.loop-i.i c.is-flagged.result _ _ _ (omega arith)
-      (map_now flagged c.args.slots.now c.loop-i.i _ c.is-flagged.result (omega arith) c.is-flagged.ensures)
+  write_step c.loop-i.out c.loop-i.i c.is_flagged.result _ _ _ (omega arith)
+      (map_now flagged c.args.slots.now c.loop-i.i _ c.is_flagged.result (omega arith) c.is_flagged.ensures)
       c.loop-i.invariant.0,
   simp length-set (omega arith),
 )

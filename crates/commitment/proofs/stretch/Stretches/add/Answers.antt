@@ -1,8 +1,8 @@
 use Rattle.commitment.proofs.Scans.{add_none, add-one, add-full}
 use Rattle.commitment.proofs.stretch.Stretches.add.Goals as goal
 
-pub returns-in-default : goal.returns-in-default
-returns-in-default c = let s = c.args.self.now in add_none s.items s.count c.args.p s.few s.room c.in-default.is
+pub returns-in_default : goal.returns-in_default
+returns-in_default c = let s = c.args.self.now in add_none s.items s.count c.args.p s.few s.room c.in_default.is
 
 pub returns-then-self-lt24 : goal.returns-then-self-lt24
 returns-then-self-lt24 c =

@@ -8,11 +8,11 @@ use Rattle.commitment.proofs.stretch.Stretches.of.Goals as goal
 pub loop-i-preserved : goal.loop-i-preserved
 loop-i-preserved c =
     scan_more c.args.marks.now (listed c.loop-i.found) _ c.loop-i.began _ c.loop-i.i c.ended_at.result
-    (omega arith) c.told-marks c.ended_at.ensures c.add.ensures c.going-at-began.ensures c.loop-i.invariant
+    (omega arith) c.told-marks c.ended_at.ensures c.add.ensures c.going_at-began.ensures c.loop-i.invariant
 
 pub returns : goal.returns
 returns c =
     let value =
-    scan_end c.args.marks.now (listed c.loop-i.found) _ c.loop-i.began c.loop-i.i c.ended-at-2.result
-    c.told-marks (omega arith) c.ended-at-2.ensures c.add-2.ensures c.loop-i.invariant in
+    scan_end c.args.marks.now (listed c.loop-i.found) _ c.loop-i.began c.loop-i.i c.ended_at-2.result
+    c.told-marks (omega arith) c.ended_at-2.ensures c.add-2.ensures c.loop-i.invariant in
     record { value = value; law = subst (Longest c.args.marks.now) (sym value) (longest c.args.marks.now) }

@@ -1,4 +1,4 @@
-use Rattle.std.proofs.Common.{sym, ◌∙◌}
+use Rattle.std.proofs.Common.{sym}
 use Rattle.commitment.proofs.Scans.{covers_step, covers-found, covers_end}
 use Rattle.commitment.proofs.stretch.scan.any_has.Goals as goal
 

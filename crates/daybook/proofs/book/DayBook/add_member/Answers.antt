@@ -6,8 +6,8 @@ use Rattle.daybook.specs.Numbers.{all_ids}
 use Rattle.daybook.proofs.Keeping.{named_after, ids_after}
 use Rattle.daybook.proofs.book.DayBook.add_member.Goals as goal
 
-pub invariant-of-self : goal.invariant-of-self
-invariant-of-self c =
+pub invariant_of-self : goal.invariant_of-self
+invariant_of-self c =
     let b = c.args.self.now in
     let e = c.new.result in
     let ms = entries b.members in

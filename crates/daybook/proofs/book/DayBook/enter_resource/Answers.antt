@@ -5,9 +5,9 @@ use Rattle.daybook.specs.Held.{held}
 use Rattle.daybook.proofs.Acts.{refused, found_ok, resource-due}
 use Rattle.daybook.proofs.book.DayBook.enter_resource.Goals as goal
 
-pub returns-in-err-may-add : goal.returns-in-err-may-add
-returns-in-err-may-add c =
-    let y = err_from_is_err_and c.from-residual-in-err-may-add.result c.from-residual-in-err-may-add.ensures.1 in
+pub returns-in_err-may_add : goal.returns-in_err-may_add
+returns-in_err-may_add c =
+    let y = err_from_is_err_and c.from_residual-in_err-may_add.result c.from_residual-in_err-may_add.ensures.1 in
     let due = resource-due (held c.args.self.now) c.args.id.number c.args.member.number c.args.place.number c.args.unit _ _
-    (found_ok _ _ _ c.in-ok-member.ensures) (found_ok _ _ _ c.in-ok-place.ensures) (c.is-some-in-use.ensures ∙ ap is_some c.get.ensures) c.is-full-full.ensures in
-    refused _ _ _ _ _ y.1 y.2 (c.in-err-may-add.ensures ∙ ap replied due)
+    (found_ok _ _ _ c.in_ok-member.ensures) (found_ok _ _ _ c.in_ok-place.ensures) (c.is_some-in_use.ensures ∙ ap is_some c.get.ensures) c.is_full-full.ensures in
+    refused _ _ _ _ _ y.1 y.2 (c.in_err-may_add.ensures ∙ ap replied due)

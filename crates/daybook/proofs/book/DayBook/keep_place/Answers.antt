@@ -6,8 +6,8 @@ use Rattle.daybook.specs.Numbers.{every, all_ids, has_whole_prices}
 use Rattle.daybook.proofs.Keeping.{every-replaced}
 use Rattle.daybook.proofs.book.DayBook.keep_place.Goals as goal
 
-pub invariant-of-self : goal.invariant-of-self
-invariant-of-self c =
+pub invariant_of-self : goal.invariant_of-self
+invariant_of-self c =
     let b = c.args.self.now in
     let keys = c.replace.ensures.keys in
     let rooms : room c.replace.new.self ≤ 16 = omega (arith, b.rooms.1, c.replace.ensures.room) in (

@@ -11,36 +11,36 @@ use Rattle.daybook.proofs.Followed.{out_of_range_lem, follows_act}
 use Rattle.daybook.proofs.Lawful.{recorded}
 use Rattle.daybook.proofs.Taking.{small, first_out_lem, second_out, both_read, slot-handed}
 use Rattle.daybook.proofs.book.DayBook.post_generator_hour.Goals as goal
-use Rattle.daybook.proofs.book.DayBook.post_generator_hour.Goals.{In-ok-resource, at·returns-in-err-record, at·returns}
+use Rattle.daybook.proofs.book.DayBook.post_generator_hour.Goals.{In-ok-resource, at·returns-in_err-record, at·returns}
 
-the-slot : (c : In-ok-resource) → Ok (c.in-ok-resource.resource, c.in-ok-resource.hour) ≡ read (slot_from c.args.resource c.args.hour)
-the-slot c = slot-handed c.args.resource c.args.hour c.ranges.resource c.ranges.hour _ c.in-ok-resource.ensures
+the-slot : (c : In-ok-resource) → Ok (c.in_ok-resource.resource, c.in_ok-resource.hour) ≡ read (slot_from c.args.resource c.args.hour)
+the-slot c = slot-handed c.args.resource c.args.hour c.ranges.resource c.ranges.hour _ c.in_ok-resource.ensures
 
-pub returns-in-err-resource : goal.returns-in-err-resource
-returns-in-err-resource c =
-    let k = c.args.resource in let h = c.args.hour in let a = c.args.day-ahead in let b = c.args.meter in let d = c.args.self-schedule in let e = c.args.commit in
-    let y = err_from_is_err_and c.from-residual.result c.from-residual.ensures.1 in
-    let out = slot-handed k h c.ranges.resource c.ranges.hour _ c.in-err-resource.ensures in
+pub returns-in_err-resource : goal.returns-in_err-resource
+returns-in_err-resource c =
+    let k = c.args.resource in let h = c.args.hour in let a = c.args.day_ahead in let b = c.args.meter in let d = c.args.self_schedule in let e = c.args.commit in
+    let y = err_from_is_err_and c.from_residual.result c.from_residual.ensures.1 in
+    let out = slot-handed k h c.ranges.resource c.ranges.hour _ c.in_err-resource.ensures in
     let o = c.args.self.now in
     let f = out_of_range_lem (post_generator_hour k h a b d e) (held o) _ _ _ y.1 y.2 (first_out_lem (brings_hour generator_hour) (slot_from k h) (generator_hour_from a b d e) _ out) in
     record { follows = f; law = recorded (post_generator_hour k h a b d e) _ _ _ f o.prices_whole o.hours_whole; again = λ da mw own on. counts generator_hour (post_generator_hour k h da mw own on) (post_generator_hour k h a b d e) k h (generator_hour_from da mw own on) (generator_hour_from a b d e) refl refl generator-twice _ _ _ f }
 
 pub behind-requires : goal.behind-requires
-behind-requires c = small 2 (generator_hour_fields (to_z w64 (of_z w64 c.args.day-ahead)) (to_z w64 (of_z w64 c.args.meter)) (to_z w64 (of_z w64 c.args.self-schedule)) (to_z w64 (of_z w64 c.args.commit))) (generator_hour_of (to_z w64 (of_z w64 c.args.day-ahead)) (to_z w64 (of_z w64 c.args.meter)) (to_z w64 (of_z w64 c.args.self-schedule)) (to_z w64 (of_z w64 c.args.commit))) _ c.of-generator-posted.ensures (lit< tt)
+behind-requires c = small 2 (generator_hour_fields (to_z w64 (of_z w64 c.args.day_ahead)) (to_z w64 (of_z w64 c.args.meter)) (to_z w64 (of_z w64 c.args.self_schedule)) (to_z w64 (of_z w64 c.args.commit))) (generator_hour_of (to_z w64 (of_z w64 c.args.day_ahead)) (to_z w64 (of_z w64 c.args.meter)) (to_z w64 (of_z w64 c.args.self_schedule)) (to_z w64 (of_z w64 c.args.commit))) _ c.of_generator-posted.ensures (lit< tt)
 
-pub returns-in-err-record : goal.returns-in-err-record
-returns-in-err-record c =
-    let k = c.args.resource in let h = c.args.hour in let a = c.args.day-ahead in let b = c.args.meter in let d = c.args.self-schedule in let e = c.args.commit in
-    let y = err_from_is_err_and c.from-residual-in-err-record.result c.from-residual-in-err-record.ensures.1 in
-    let out = c.in-err-record.ensures ∙ ap (behind 2) c.of-generator-posted.ensures ∙ (λ i. behind 2 (made-hour (to_z-of_z w64 a c.ranges.day-ahead i) (to_z-of_z w64 b c.ranges.meter i) (to_z-of_z w64 d c.ranges.self-schedule i) (to_z-of_z w64 e c.ranges.commit i))) in
+pub returns-in_err-record : goal.returns-in_err-record
+returns-in_err-record c =
+    let k = c.args.resource in let h = c.args.hour in let a = c.args.day_ahead in let b = c.args.meter in let d = c.args.self_schedule in let e = c.args.commit in
+    let y = err_from_is_err_and c.from_residual-in_err-record.result c.from_residual-in_err-record.ensures.1 in
+    let out = c.in_err-record.ensures ∙ ap (behind 2) c.of_generator-posted.ensures ∙ (λ i. behind 2 (made-hour (to_z-of_z w64 a c.ranges.day_ahead i) (to_z-of_z w64 b c.ranges.meter i) (to_z-of_z w64 d c.ranges.self_schedule i) (to_z-of_z w64 e c.ranges.commit i))) in
     let o = c.args.self.now in
-    let f = out_of_range_lem (post_generator_hour k h a b d e) (held o) _ _ _ y.1 y.2 (second_out (brings_hour generator_hour) (slot_from k h) (generator_hour_from a b d e) 2 refl _ (the-slot (at·returns-in-err-record c).In-ok-resource) _ out) in
+    let f = out_of_range_lem (post_generator_hour k h a b d e) (held o) _ _ _ y.1 y.2 (second_out (brings_hour generator_hour) (slot_from k h) (generator_hour_from a b d e) 2 refl _ (the-slot (at·returns-in_err-record c).In-ok-resource) _ out) in
     record { follows = f; law = recorded (post_generator_hour k h a b d e) _ _ _ f o.prices_whole o.hours_whole; again = λ da mw own on. counts generator_hour (post_generator_hour k h da mw own on) (post_generator_hour k h a b d e) k h (generator_hour_from da mw own on) (generator_hour_from a b d e) refl refl generator-twice _ _ _ f }
 
 pub returns : goal.returns
 returns c =
-    let k = c.args.resource in let h = c.args.hour in let a = c.args.day-ahead in let b = c.args.meter in let d = c.args.self-schedule in let e = c.args.commit in
-    let was = c.in-ok-record.ensures ∙ ap (behind 2) c.of-generator-posted.ensures ∙ (λ i. behind 2 (made-hour (to_z-of_z w64 a c.ranges.day-ahead i) (to_z-of_z w64 b c.ranges.meter i) (to_z-of_z w64 d c.ranges.self-schedule i) (to_z-of_z w64 e c.ranges.commit i))) in
+    let k = c.args.resource in let h = c.args.hour in let a = c.args.day_ahead in let b = c.args.meter in let d = c.args.self_schedule in let e = c.args.commit in
+    let was = c.in_ok-record.ensures ∙ ap (behind 2) c.of_generator-posted.ensures ∙ (λ i. behind 2 (made-hour (to_z-of_z w64 a c.ranges.day_ahead i) (to_z-of_z w64 b c.ranges.meter i) (to_z-of_z w64 d c.ranges.self_schedule i) (to_z-of_z w64 e c.ranges.commit i))) in
     let o = c.args.self.now in
-    let f = follows_act (post_generator_hour k h a b d e) _ _ _ _ (both_read (brings_hour generator_hour) (slot_from k h) (generator_hour_from a b d e) 2 refl _ (the-slot (at·returns c).In-ok-resource) _ was) c.enter-generator-hour.ensures in
+    let f = follows_act (post_generator_hour k h a b d e) _ _ _ _ (both_read (brings_hour generator_hour) (slot_from k h) (generator_hour_from a b d e) 2 refl _ (the-slot (at·returns c).In-ok-resource) _ was) c.enter_generator_hour.ensures in
     record { follows = f; law = recorded (post_generator_hour k h a b d e) _ _ _ f o.prices_whole o.hours_whole; again = λ da mw own on. counts generator_hour (post_generator_hour k h da mw own on) (post_generator_hour k h a b d e) k h (generator_hour_from da mw own on) (generator_hour_from a b d e) refl refl generator-twice _ _ _ f }

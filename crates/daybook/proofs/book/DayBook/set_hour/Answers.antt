@@ -10,8 +10,8 @@ use Rattle.daybook.proofs.Keeping.{found_passes, still_whole}
 use Rattle.daybook.proofs.Updates.{put_back, with_hours}
 use Rattle.daybook.proofs.book.DayBook.set_hour.Goals as goal
 
-pub keep-resource-requires : goal.keep-resource-requires
-keep-resource-requires c =
+pub keep_resource-requires : goal.keep_resource-requires
+keep_resource-requires c =
     let b = c.args.self.now in
     let x = c.args.found in
     record {
@@ -26,6 +26,6 @@ pub returns : goal.returns
 returns c =
     let b = c.args.self.now in
     let x = c.args.found in
-    c.keep-resource.ensures
+    c.keep_resource.ensures
     ∙ ap (λ d. with_resources (held b) (replaced resource_key (with_hours x d) (entries b.resources))) c.set.ensures
     ∙ ap (with_resources (held b)) (put_back resource_key x.id (with_hour c.args.hour.number (Some c.args.record)) x (entries b.resources) c.requires refl)

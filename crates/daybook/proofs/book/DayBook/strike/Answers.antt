@@ -18,17 +18,17 @@ struck-again r h before next reply f = record {
   loads_hour = λ da meter. unposted load_hour (post_load_hour r h da meter) r h (load_hour_from da meter) refl (λ _ _ _ _. refl) before next reply f;
 }
 
-pub returns-in-err-resource : goal.returns-in-err-resource
-returns-in-err-resource c =
+pub returns-in_err-resource : goal.returns-in_err-resource
+returns-in_err-resource c =
     let r = c.args.resource in let h = c.args.hour in
-    let y = err_from_is_err_and c.from-residual.result c.from-residual.ensures.1 in
+    let y = err_from_is_err_and c.from_residual.result c.from_residual.ensures.1 in
     let b = c.args.self.now in
-    let f = out_of_range_lem (strike r h) (held b) _ _ _ y.1 y.2 (into-out (λ x. takes x.0.number x.1) (slot_from r h) _ (slot-handed r h c.ranges.resource c.ranges.hour _ c.in-err-resource.ensures)) in
+    let f = out_of_range_lem (strike r h) (held b) _ _ _ y.1 y.2 (into-out (λ x. takes x.0.number x.1) (slot_from r h) _ (slot-handed r h c.ranges.resource c.ranges.hour _ c.in_err-resource.ensures)) in
     record { follows = f; law = recorded (strike r h) _ _ _ f b.prices_whole b.hours_whole; never = struck-again r h _ _ _ f }
 
 pub returns : goal.returns
 returns c =
     let r = c.args.resource in let h = c.args.hour in
     let b = c.args.self.now in
-    let f = follows_act (strike r h) _ _ _ _ (read-into (λ x. takes x.0.number x.1) (slot_from r h) _ (slot-handed r h c.ranges.resource c.ranges.hour _ c.in-ok-resource.ensures)) c.take-hour.ensures in
+    let f = follows_act (strike r h) _ _ _ _ (read-into (λ x. takes x.0.number x.1) (slot_from r h) _ (slot-handed r h c.ranges.resource c.ranges.hour _ c.in_ok-resource.ensures)) c.take_hour.ensures in
     record { follows = f; law = recorded (strike r h) _ _ _ f b.prices_whole b.hours_whole; never = struck-again r h _ _ _ f }

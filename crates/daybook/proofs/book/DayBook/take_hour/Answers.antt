@@ -15,13 +15,13 @@ use Rattle.daybook.proofs.Slots.{hour_stands}
 use Rattle.daybook.proofs.Updates.{put_back, with_hours}
 use Rattle.daybook.proofs.book.DayBook.take_hour.Goals as goal
 
-pub keep-resource-requires : goal.keep-resource-requires
-keep-resource-requires c =
+pub keep_resource-requires : goal.keep_resource-requires
+keep_resource-requires c =
     let b = c.args.self.now in
     let k = c.args.resource.number in
     let rs = entries b.resources in
-    let x = c.in-ok-found.found in
-    let there = found-is (lookup resource_key k rs) x _ c.in-ok-found.ensures in
+    let x = c.in_ok-found.found in
+    let there = found-is (lookup resource_key k rs) x _ c.in_ok-found.ensures in
     record {
       owned = found_passes resource_key (λ r. among (ids_of_members (entries b.members)) r.member) k rs x there b.owned;
       placed = found_passes resource_key (λ r. among (ids_of_places (entries b.places)) r.place) k rs x there b.placed;
@@ -36,11 +36,11 @@ returns c =
     let rs = entries b.resources in
     let k = c.args.resource.number in
     let h = c.args.hour.number in
-    let x = c.in-ok-found.found in
-    let there = found-is (lookup resource_key k rs) x _ c.in-ok-found.ensures in
-    let stood = hour_stands (held b) k c.args.hour x there ∙ ap is_some (sym c.strike.ensures.reply) ∙ c.if-is-none.ensures in
-    let free = nothing-due _ _ (option_map DraftOut b.out) (NotRegistered k Resource) (NothingToStrike k h) (ap is_some there) c.in-ok-no-draft-out.ensures stood in
+    let x = c.in_ok-found.found in
+    let there = found-is (lookup resource_key k rs) x _ c.in_ok-found.ensures in
+    let stood = hour_stands (held b) k c.args.hour x there ∙ ap is_some (sym c.strike.ensures.reply) ∙ c.if-is_none.ensures in
+    let free = nothing-due _ _ (option_map DraftOut b.out) (NotRegistered k Resource) (NothingToStrike k h) (ap is_some there) c.in_ok-no_draft_out.ensures stood in
     accepted _ _ _ free
-    (c.keep-resource.ensures
+    (c.keep_resource.ensures
     ∙ ap (λ d. with_resources (held b) (replaced resource_key (with_hours x d) rs)) c.strike.ensures.after
     ∙ ap (with_resources (held b)) (put_back resource_key k (with_hour h None) x rs there refl))

@@ -7,29 +7,29 @@ use Rattle.daybook.specs.Held.{held}
 use Rattle.daybook.specs.Questions.{generator_asked}
 use Rattle.daybook.proofs.Priced.{figure-out, figure_in, one-generator}
 use Rattle.daybook.proofs.book.DayBook.uplift.Goals as goal
-use Rattle.daybook.proofs.book.DayBook.uplift.Goals.{In-ok-generator, at·returns-in-err-prices, at·returns}
+use Rattle.daybook.proofs.book.DayBook.uplift.Goals.{In-ok-generator, at·returns-in_err-prices, at·returns}
 
-the-generator : (c : In-ok-generator) → Ok (c.in-ok-generator.generator, c.in-ok-generator.resource) ≡ generator_asked (held c.args.self.now) c.args.generator
-the-generator c = c.in-ok-generator.ensures ∙ ap (generator_asked (held c.args.self.now)) (to_z-of_z w64 c.args.generator c.ranges.generator)
+the-generator : (c : In-ok-generator) → Ok (c.in_ok-generator.generator, c.in_ok-generator.resource) ≡ generator_asked (held c.args.self.now) c.args.generator
+the-generator c = c.in_ok-generator.ensures ∙ ap (generator_asked (held c.args.self.now)) (to_z-of_z w64 c.args.generator c.ranges.generator)
 
-pub returns-in-err-prices : goal.returns-in-err-prices
-returns-in-err-prices c =
+pub returns-in_err-prices : goal.returns-in_err-prices
+returns-in_err-prices c =
     let v = held c.args.self.now in
-    let y = err_from_is_err_and c.from-residual-in-err-prices.result c.from-residual-in-err-prices.ensures.1 in
-    let out = c.in-err-prices.ensures ∙ ap (λ ps. priced_day ps c.in-ok-generator.resource) c.all.ensures in
+    let y = err_from_is_err_and c.from_residual-in_err-prices.result c.from_residual-in_err-prices.ensures.1 in
+    let out = c.in_err-prices.ensures ∙ ap (λ ps. priced_day ps c.in_ok-generator.resource) c.all.ensures in
     record {
-      value = y.1 ∙ ap Err y.2 ∙ figure-out v c.args.generator (λ x. uplift x.0 x.1.hours.slots (prices_at v.places x.1.place)) _ (the-generator (at·returns-in-err-prices c).In-ok-generator) _ out;
-      law = IfOk-from_err c.from-residual-in-err-prices.result _ c.from-residual-in-err-prices.ensures.0;
+      value = y.1 ∙ ap Err y.2 ∙ figure-out v c.args.generator (λ x. uplift x.0 x.1.hours.slots (prices_at v.places x.1.place)) _ (the-generator (at·returns-in_err-prices c).In-ok-generator) _ out;
+      law = IfOk-from_err c.from_residual-in_err-prices.result _ c.from_residual-in_err-prices.ensures.0;
     }
 
 pub returns : goal.returns
 returns c =
     let v = held c.args.self.now in
-    let g = c.in-ok-generator.generator in
-    let r = c.in-ok-generator.resource in
+    let g = c.in_ok-generator.generator in
+    let r = c.in_ok-generator.resource in
     let is = the-generator (at·returns c).In-ok-generator in
-    let was = c.in-ok-prices.ensures ∙ ap (λ ps. priced_day ps r) c.all.ensures in
-    let k = figure_in v c.args.generator (λ x. uplift x.0 x.1.hours.slots (prices_at v.places x.1.place)) (g, r) is c.in-ok-prices.prices was in
+    let was = c.in_ok-prices.ensures ∙ ap (λ ps. priced_day ps r) c.all.ensures in
+    let k = figure_in v c.args.generator (λ x. uplift x.0 x.1.hours.slots (prices_at v.places x.1.place)) (g, r) is c.in_ok-prices.prices was in
     record {
       value = ap Ok (c.uplift.ensures.value ∙ ap (uplift g r.hours.slots) k.0) ∙ k.1;
       law = λ g' r' e.

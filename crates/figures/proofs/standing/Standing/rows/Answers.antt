@@ -10,7 +10,7 @@ pub loop-i-preserved : goal.loop-i-preserved
 loop-i-preserved c =
     let s = c.args.self.now in (
       simp length-set c.loop-i.invariant.0,
-      fill_more (λ m. member_row s.resources.now m.id) s.members.now c.loop-i.items c.loop-i.i c.loop-i.invariant.1 _ c.row-of.result c.loop-i-test.true (omega (arith, s.few.0)) c.row-of.ensures.value,
+      fill_more (λ m. member_row s.resources.now m.id) s.members.now c.loop-i.items c.loop-i.i c.loop-i.invariant.1 _ c.row_of.result c.loop-i-test.true (omega (arith, s.few.0)) c.row_of.ensures.value,
     )
 
 pub returns : goal.returns

@@ -6,14 +6,14 @@ use Rattle.hours.proofs.Ranges.{fit_too, made-is, refused-is}
 use Rattle.hours.proofs.Made.{same_number}
 use Rattle.hours.proofs.day.Hour.new.Goals as goal
 
-pub returns-in-err-check : goal.returns-in-err-check
-returns-in-err-check c =
+pub returns-in_err-check : goal.returns-in_err-check
+returns-in_err-check c =
     let hour = c.args.hour in let f = c.ranges.hour in
-    let p = err_from_is_err_and c.from-residual.result c.from-residual.ensures.1 in
-    refused-is _ (hour_fields hour) (simp to_z-of_z) (hour_made hour) _ _ _ p.1 p.2 c.in-err-check.ensures.cases
+    let p = err_from_is_err_and c.from_residual.result c.from_residual.ensures.1 in
+    refused-is _ (hour_fields hour) (simp to_z-of_z) (hour_made hour) _ _ _ p.1 p.2 c.in_err-check.ensures.cases
 
 pub returns : goal.returns
 returns c =
     let hour = c.args.hour in let f = c.ranges.hour in
-    let h = fit_too _ (hour_fields hour) (simp to_z-of_z) (hour_made hour) c.in-ok-check.ensures.cases in
+    let h = fit_too _ (hour_fields hour) (simp to_z-of_z) (hour_made hour) c.in_ok-check.ensures.cases in
     made-is _ (hour_fields hour) refl (hour_made hour) _ h (same_number _ (nat_abs hour) _ (hour_bounds hour h) (simp to_z-of_z))

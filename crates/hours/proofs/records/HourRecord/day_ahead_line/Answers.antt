@@ -6,5 +6,5 @@ use Rattle.hours.proofs.records.HourRecord.day_ahead_line.Goals as goal
 
 pub returns : goal.returns
 returns c =
-    let e : to_z w64 (of_z w64 c.round-cents.result) ≡ day_ahead_line c.args.self.now c.args.price.now = search (rules, to_z-of_z) in
+    let e : to_z w64 (of_z w64 c.round_cents.result) ≡ day_ahead_line c.args.self.now c.args.price.now = search (rules, to_z-of_z) in
     record { value = e; bound = subst (λ z. nat_abs z ≤ 20000000) (sym e) (day_ahead_size c.args.self.now c.args.price.now) }

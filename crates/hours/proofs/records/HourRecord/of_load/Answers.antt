@@ -1,4 +1,4 @@
-use Rattle.std.proofs.Common.{◌≡◌, false, refl, arith, w32, SFits}
+use Rattle.std.proofs.Common.{false, refl, arith, w32, SFits}
 use Rattle.std.proofs.lemmas.Result.{err_from_is_err_and}
 use Rattle.std.proofs.lemmas.Int.{to_z-of_z}
 use Rattle.money.proofs.Products.{fits-abs}
@@ -7,18 +7,18 @@ use Rattle.hours.proofs.Ranges.{fit_too, made-is, refused-is}
 use Rattle.hours.proofs.Made.{same_hour}
 use Rattle.hours.proofs.records.HourRecord.of_load.Goals as goal
 
-pub returns-in-err-check : goal.returns-in-err-check
-returns-in-err-check c =
-    let da = c.args.day-ahead in let meter = c.args.meter in
-    let f₁ = c.ranges.day-ahead in let f₂ = c.ranges.meter in
-    let p = err_from_is_err_and c.from-residual.result c.from-residual.ensures.1 in
-    refused-is _ (load_hour_fields da meter) (simp to_z-of_z) (load_hour_of da meter) _ _ _ p.1 p.2 c.in-err-check.ensures.cases
+pub returns-in_err-check : goal.returns-in_err-check
+returns-in_err-check c =
+    let da = c.args.day_ahead in let meter = c.args.meter in
+    let f₁ = c.ranges.day_ahead in let f₂ = c.ranges.meter in
+    let p = err_from_is_err_and c.from_residual.result c.from_residual.ensures.1 in
+    refused-is _ (load_hour_fields da meter) (simp to_z-of_z) (load_hour_of da meter) _ _ _ p.1 p.2 c.in_err-check.ensures.cases
 
 pub returns : goal.returns
 returns c =
-    let da = c.args.day-ahead in let meter = c.args.meter in
-    let f₁ = c.ranges.day-ahead in let f₂ = c.ranges.meter in
-    let h = fit_too _ (load_hour_fields da meter) (simp to_z-of_z) (load_hour_of da meter) c.in-ok-check.ensures.cases in
+    let da = c.args.day_ahead in let meter = c.args.meter in
+    let f₁ = c.ranges.day_ahead in let f₂ = c.ranges.meter in
+    let h = fit_too _ (load_hour_fields da meter) (simp to_z-of_z) (load_hour_of da meter) c.in_ok-check.ensures.cases in
     let b = load_hour_bounds da meter h in
     let s₁ : SFits w32 da = fits-abs w32 da (omega arith) in
     let s₂ : SFits w32 meter = fits-abs w32 meter (omega arith) in

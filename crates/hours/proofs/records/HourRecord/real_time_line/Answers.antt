@@ -6,5 +6,5 @@ use Rattle.hours.proofs.records.HourRecord.real_time_line.Goals as goal
 
 pub returns : goal.returns
 returns c =
-    let e : to_z w64 (of_z w64 c.round-cents.result) ≡ real_time_line c.args.self.now c.args.price.now = search (rules, to_z-of_z) in
+    let e : to_z w64 (of_z w64 c.round_cents.result) ≡ real_time_line c.args.self.now c.args.price.now = search (rules, to_z-of_z) in
     record { value = e; bound = subst (λ z. nat_abs z ≤ 40000000) (sym e) (real_time_size c.args.self.now c.args.price.now) }

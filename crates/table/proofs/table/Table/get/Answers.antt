@@ -6,8 +6,8 @@ use Rattle.table.proofs.table.Table.get.Goals as goal
 pub bounds-rows-at : goal.bounds-rows-at
 bounds-rows-at g c = omega (arith, found_within g.E.Keyed.key (g.E.Key.Rank.rank c.args.wanted) c.in-Some.at c.all-rows.result.now c.in-Some.ensures)
 
-pub offset-bounds-rows-at : goal.offset-bounds-rows-at
-offset-bounds-rows-at g c = omega (arith, bounds-rows-at g c)
+pub offset_bounds-rows-at : goal.offset_bounds-rows-at
+offset_bounds-rows-at g c = omega (arith, bounds-rows-at g c)
 
 pub returns-in-Some : goal.returns-in-Some
 returns-in-Some g c =

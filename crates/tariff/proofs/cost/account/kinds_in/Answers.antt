@@ -8,9 +8,9 @@ use Rattle.tariff.proofs.cost.account.kinds_in.Goals as goal
 
 pub loop-i-preserved : goal.loop-i-preserved
 loop-i-preserved c = (
-  write_step c.loop-i.out c.loop-i.i c.kind-of.result _ _ _ (omega arith)
-      (kind_now (listed c.args.periods.now) c.args.slots.now c.loop-i.i _ c.kind-of.result (omega arith)
-      (c.kind-of.ensures ∙ (λ i. kind_of (c.cover-belongs.ensures i) (c.counted.ensures i).committed)))
+  write_step c.loop-i.out c.loop-i.i c.kind_of.result _ _ _ (omega arith)
+      (kind_now (listed c.args.periods.now) c.args.slots.now c.loop-i.i _ c.kind_of.result (omega arith)
+      (c.kind_of.ensures ∙ (λ i. kind_of (c.cover-belongs.ensures i) (c.counted.ensures i).committed)))
       c.loop-i.invariant.0,
   simp length-set (omega arith),
 )

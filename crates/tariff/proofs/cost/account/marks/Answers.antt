@@ -6,8 +6,8 @@ use Rattle.tariff.proofs.cost.account.marks.Goals as goal
 
 pub loop-i-preserved : goal.loop-i-preserved
 loop-i-preserved c = (
-  write_step c.loop-i.out c.loop-i.i c.is-on.result _ _ _ (omega arith)
-      (map_now is_on c.args.kinds.now c.loop-i.i _ c.is-on.result (omega arith) c.is-on.ensures)
+  write_step c.loop-i.out c.loop-i.i c.is_on.result _ _ _ (omega arith)
+      (map_now is_on c.args.kinds.now c.loop-i.i _ c.is_on.result (omega arith) c.is_on.ensures)
       c.loop-i.invariant.0,
   simp length-set (omega arith),
 )

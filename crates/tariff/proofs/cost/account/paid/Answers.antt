@@ -1,4 +1,4 @@
-use Rattle.std.proofs.Common.{◌≡◌, ◌≤◌, ◌-ℤ◌, nat_abs, sym, subst, arith, rules}
+use Rattle.std.proofs.Common.{◌≡◌, ◌≤◌, ◌-ℤ◌, sym, subst, arith, rules}
 use Rattle.std.proofs.lemmas.Int.{ints, to_z-of_z}
 use Rattle.money.specs.Amounts.{or_zero}
 use Rattle.money.specs.Rounding.{rounded}
@@ -9,7 +9,7 @@ pub returns : goal.returns
 returns c =
     let cost = c.args.cost in
     let earned = c.args.earned in
-    let e : c.or-zero.result ≡ or_zero (rounded (cost -ℤ earned)) = search (rules, to_z-of_z) in
+    let e : c.or_zero.result ≡ or_zero (rounded (cost -ℤ earned)) = search (rules, to_z-of_z) in
     record {
       value = e;
       bound = subst (λ n. n ≤ 1224000000) (sym e) (uplift-size (cost -ℤ earned) 1224000000 (omega (arith, ints)));

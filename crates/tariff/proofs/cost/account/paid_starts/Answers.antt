@@ -6,11 +6,11 @@ use Rattle.tariff.proofs.cost.account.paid_starts.Goals as goal
 
 pub loop-i-preserved : goal.loop-i-preserved
 loop-i-preserved c =
-    count_more (paid_start c.args.carried-in c.args.kinds.now) c.args.runs.now c.loop-i.i _ c.loop-i.count c.from-count.result c.start-is-paid.result
-    c.loop-i-test.true c.from-count.ensures c.start-is-paid.ensures c.loop-i.invariant
+    count_more (paid_start c.args.carried_in c.args.kinds.now) c.args.runs.now c.loop-i.i _ c.loop-i.count c.from-count.result c.start_is_paid.result
+    c.loop-i-test.true c.from-count.ensures c.start_is_paid.ensures c.loop-i.invariant
 
 pub returns : goal.returns
 returns c = record {
-  value = c.loop-i.invariant.0 ∙ ap (count_by (paid_start c.args.carried-in c.args.kinds.now)) (take_all c.loop-i.i c.args.runs.now c.loop-i-test.false);
+  value = c.loop-i.invariant.0 ∙ ap (count_by (paid_start c.args.carried_in c.args.kinds.now)) (take_all c.loop-i.i c.args.runs.now c.loop-i-test.false);
   bound = omega arith;
 }

@@ -3,4 +3,4 @@ use Rattle.tariff.specs.Costs.{paid_start}
 use Rattle.tariff.proofs.cost.account.paid_starts.Given as goal
 
 abbrev pub invariant-loop-i : goal.invariant-loop-i
-invariant-loop-i l = (l.count ≡ count_by (paid_start l.carried-in l.kinds) (take l.i l.runs)) × (l.count ≤ l.i)
+invariant-loop-i l = (l.count ≡ count_by (paid_start l.carried_in l.kinds) (take l.i l.runs)) × (l.count ≤ l.i)

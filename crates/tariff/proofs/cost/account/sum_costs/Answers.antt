@@ -13,10 +13,10 @@ pub loop-i-preserved : goal.loop-i-preserved
 loop-i-preserved c =
     let g = c.args.generator.now in
     let hour = c.counted-hour.ensures ∙ ap counted (get_or_default c.args.slots.now c.loop-i.i c.index-slots-i.result None (omega arith)) in
-    sum_more (cost_at g c.args.kinds.now c.args.slots.now) 21000000000 _ c.plus-total.result c.hour-cost.result c.loop-i.i
-    (omega arith) (omega arith) (record { sfits = c.plus-total.type-inv }) (record { sfits = c.hour-cost.type-inv }) c.plus-total.ensures.exact c.plus-total.ensures.bound
-    (c.hour-cost.ensures.value ∙ ap (hour_cost g (get_or c.args.kinds.now c.loop-i.i Off)) hour)
-    c.hour-cost.ensures.bound c.loop-i.invariant
+    sum_more (cost_at g c.args.kinds.now c.args.slots.now) 21000000000 _ c.plus-total.result c.hour_cost.result c.loop-i.i
+    (omega arith) (omega arith) (record { sfits = c.plus-total.type_inv }) (record { sfits = c.hour_cost.type_inv }) c.plus-total.ensures.exact c.plus-total.ensures.bound
+    (c.hour_cost.ensures.value ∙ ap (hour_cost g (get_or c.args.kinds.now c.loop-i.i Off)) hour)
+    c.hour_cost.ensures.bound c.loop-i.invariant
 
 pub returns : goal.returns
 returns c =

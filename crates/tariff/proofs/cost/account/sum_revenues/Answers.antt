@@ -14,10 +14,10 @@ loop-i-preserved c =
     let g = c.args.generator.now in
     let hour = c.counted-hour.ensures ∙ ap counted (get_or_default c.args.slots.now c.loop-i.i c.index-slots-i.result None (omega arith)) in
     let price = c.counted-price.ensures ∙ ap price_or0 (get_or_default c.args.prices.now c.loop-i.i c.index-prices-i.result None (omega arith)) in
-    sum_more (revenue_at g c.args.kinds.now c.args.slots.now c.args.prices.now) 20000000000 _ c.plus-total.result c.hour-revenue.result c.loop-i.i
-    (omega arith) (omega arith) (record { sfits = c.plus-total.type-inv }) (record { sfits = c.hour-revenue.type-inv }) c.plus-total.ensures.exact c.plus-total.ensures.bound
-    (c.hour-revenue.ensures.value ∙ (λ k. hour_revenue g (get_or c.args.kinds.now c.loop-i.i Off) (hour k) (price k)))
-    c.hour-revenue.ensures.bound c.loop-i.invariant
+    sum_more (revenue_at g c.args.kinds.now c.args.slots.now c.args.prices.now) 20000000000 _ c.plus-total.result c.hour_revenue.result c.loop-i.i
+    (omega arith) (omega arith) (record { sfits = c.plus-total.type_inv }) (record { sfits = c.hour_revenue.type_inv }) c.plus-total.ensures.exact c.plus-total.ensures.bound
+    (c.hour_revenue.ensures.value ∙ (λ k. hour_revenue g (get_or c.args.kinds.now c.loop-i.i Off) (hour k) (price k)))
+    c.hour_revenue.ensures.bound c.loop-i.invariant
 
 pub returns : goal.returns
 returns c =

@@ -6,21 +6,21 @@ use Rattle.tariff.proofs.Made.{same_generator}
 use Rattle.tariff.proofs.Forms.{numbers_of, numbers_read, numbers_read_lem, bounds, bounds-read}
 use Rattle.tariff.proofs.generator.Generator.register.Goals as goal
 
-pub returns-in-err-check : goal.returns-in-err-check
-returns-in-err-check c =
-    let p = err_from_is_err_and c.from-residual.result c.from-residual.ensures.1 in
-    refused-is _ (generator_fields c.args.form.now) refl (generator_made c.args.form.now) _ _ _ p.1 p.2 c.in-err-check.ensures
+pub returns-in_err-check : goal.returns-in_err-check
+returns-in_err-check c =
+    let p = err_from_is_err_and c.from_residual.result c.from_residual.ensures.1 in
+    refused-is _ (generator_fields c.args.form.now) refl (generator_made c.args.form.now) _ _ _ p.1 p.2 c.in_err-check.ensures
 
-pub invariant-of-bid : goal.invariant-of-bid
-invariant-of-bid c = let k = bounds-read c.args.form.now c.in-ok-check.ensures.test in (k.prices, (k.rises, (k.steps, tt)))
+pub invariant_of-bid : goal.invariant_of-bid
+invariant_of-bid c = let k = bounds-read c.args.form.now c.in_ok-check.ensures.test in record { prices = k.prices; rises = k.rises; steps = k.steps }
 
-pub invariant-of-result : goal.invariant-of-result
-invariant-of-result c =
-    let k = bounds-read c.args.form.now c.in-ok-check.ensures.test in
-    (k.costs, (k.run, (k.down, (k.starts, (k.above, tt)))))
+pub invariant_of-result : goal.invariant_of-result
+invariant_of-result c =
+    let k = bounds-read c.args.form.now c.in_ok-check.ensures.test in
+    record { costs = k.costs; run = k.run; down = k.down; starts = k.starts; above = k.above }
 
 pub returns : goal.returns
 returns c =
     let f = c.args.form.now in
-    let h = c.in-ok-check.ensures.test in
+    let h = c.in_ok-check.ensures.test in
     made-is _ (generator_fields f) refl (generator_made f) _ h (same_generator (numbers_read f) (numbers_of f) _ (bounds f h) (numbers_read_lem f h))
