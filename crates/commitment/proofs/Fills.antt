@@ -1,6 +1,6 @@
 -- Filling gaps: the periods stay in order, no hour is lost, and the hours gained lie in gaps that were filled.
 use Rattle.std.proofs.Common.{◌≡◌, ℕ, ◌+◌, ◌<◌, ◌≤◌, Bool, true, ltb, ◌⊎◌, List, [], ◌∷◌, inl, inr, ⊎_elim, arith}
-use Rattle.std.specs.List.{AllByRecursion as All}
+use Rattle.std.specs.List.{AllByRecursion}
 use Rattle.std.proofs.lemmas.Bool.{cases_lt, cond_both, ltb-true, ltb-false}
 use Rattle.commitment.specs.declared.gaps.Choice.TheVariants.{FewerThan}
 use Rattle.commitment.specs.declared.stretch.Stretch.{Stretch}
@@ -57,8 +57,8 @@ module _ {Filled : ℕ → Type 0} where
   begins (fills s fs) P at = begins fs P at
   begins (leaves {p} fs) P at = at p.last _
 
-  gaps-after : {q : Stretch} {qs rs : List Stretch} → Fills Filled (q ∷ qs) rs → (p : Stretch) (P : ℕ → Type 0) → P (gap p q) → All P (gaps rs) → All P (gaps_after p rs)
-  gaps-after fs p P now = begins fs (λ rs. All P (gaps rs) → All P (gaps_after p rs)) (λ _ _ more. (now, more))
+  gaps-after : {q : Stretch} {qs rs : List Stretch} → Fills Filled (q ∷ qs) rs → (p : Stretch) (P : ℕ → Type 0) → P (gap p q) → AllByRecursion P (gaps rs) → AllByRecursion P (gaps_after p rs)
+  gaps-after fs p P now = begins fs (λ rs. AllByRecursion P (gaps rs) → AllByRecursion P (gaps_after p rs)) (λ _ _ more. (now, more))
 
   between-after : {q : Stretch} {qs rs : List Stretch} → Fills Filled (q ∷ qs) rs → (p : Stretch) (Size : ℕ → Type 0) (h : ℕ) → BetweenAfter Size p rs h → ((p.last < h) × (h < q.first) × Size (gap p q)) ⊎ Between Size rs h
   between-after {q} fs p Size h = begins fs (λ rs. BetweenAfter Size p rs h → ((p.last < h) × (h < q.first) × Size (gap p q)) ⊎ Between Size rs h) (λ _ _ b. b)
@@ -105,14 +105,14 @@ module _ (mdt : ℕ) where
   pub bridged-fills : (ps : List Stretch) → Fills (λ g. g < mdt) ps (bridged mdt ps)
   bridged-fills = fill-fills (λ g. g < mdt) (chosen_by (FewerThan mdt)) (λ i g. ltb-true g mdt)
 
-  fill_from-apart : (i : ℕ) (p : Stretch) (qs : List Stretch) → All (λ g. mdt ≤ g) (gaps (fill_from (chosen_by (FewerThan mdt)) i p qs))
+  fill_from-apart : (i : ℕ) (p : Stretch) (qs : List Stretch) → AllByRecursion (λ g. mdt ≤ g) (gaps (fill_from (chosen_by (FewerThan mdt)) i p qs))
   fill_from-apart i p [] = tt
   fill_from-apart i p (q ∷ qs) =
       let fs = fill_from-fills AnySize (chosen_by (FewerThan mdt)) (λ _ _ _. tt) (i + 1) q qs in
-      cond_both (ltb (gap p q) mdt) _ _ (λ rs. All (λ g. mdt ≤ g) (gaps rs))
+      cond_both (ltb (gap p q) mdt) _ _ (λ rs. AllByRecursion (λ g. mdt ≤ g) (gaps rs))
       (λ _. fill_from-apart (i + 1) (join p q) qs)
       (λ e. gaps-after fs p (λ g. mdt ≤ g) (ltb-false _ _ e) (fill_from-apart (i + 1) q qs))
 
-  pub bridged-apart : (ps : List Stretch) → All (λ g. mdt ≤ g) (gaps (bridged mdt ps))
+  pub bridged-apart : (ps : List Stretch) → AllByRecursion (λ g. mdt ≤ g) (gaps (bridged mdt ps))
   bridged-apart [] = tt
   bridged-apart (p ∷ ps) = fill_from-apart 0 p ps

@@ -1,6 +1,6 @@
 -- Step 1: the periods are in order and long enough, they hold every flagged hour, and every other hour of theirs is held on.
 use Rattle.std.proofs.Common.{◌≡◌, ℕ, suc, ◌+◌, ◌-◌, ◌<◌, ◌≤◌, Bool, true, false, cond, ltb, ◌⊎◌, List, [], ◌∷◌, length, get_or, Some, None, Option, sym, refl, ap, ◌∙◌, subst, inl, inr, ⊎_elim, arith}
-use Rattle.std.specs.List.{AllByRecursion as All}
+use Rattle.std.specs.List.{AllByRecursion}
 use Rattle.std.proofs.lemmas.Bool.{cases_lt, lt-ltb, le-ltb, and_from, and_right, false≢true}
 use Rattle.commitment.specs.declared.stretch.Stretch.{Stretch}
 use Rattle.commitment.specs.Stretches.{hours, gaps, gaps_after, stretches_from, stretches}
@@ -127,7 +127,7 @@ module _ (F : ℕ → Type 0) (mrt : ℕ) where
   runs_explained (stops lt long r) fs x k (inr i) = ⊎_elim inl (λ held. inr (inr held)) (runs_explained r (flags_later _ _ _ fs) tt k i)
 
 -- every period is long enough, or lasts to the end of the day
-runs_long : {mrt h : ℕ} {began : Option ℕ} {flags : List Bool} {ps : List Stretch} → Runs mrt h began flags ps → (end : ℕ) → h + length flags ≡ end + 1 → All (λ p. (mrt ≤ hours p) ⊎ (p.last ≡ end)) ps
+runs_long : {mrt h : ℕ} {began : Option ℕ} {flags : List Bool} {ps : List Stretch} → Runs mrt h began flags ps → (end : ℕ) → h + length flags ≡ end + 1 → AllByRecursion (λ p. (mrt ≤ hours p) ⊎ (p.last ≡ end)) ps
 runs_long ends_idle end e = tt
 runs_long (ends_running lt) end e = (inr (omega arith), tt)
 runs_long (idles r) end e = runs_long r end (omega arith)
@@ -146,15 +146,15 @@ module _ (mrt : ℕ) (flags : List Bool) where
   pub held_explained : (h : ℕ) → In (after_mrt mrt flags) h → Flagged flags h ⊎ HeldOn mrt (after_mrt mrt flags) h
   held_explained = runs_explained (Flagged flags) mrt (idle mrt flags 1) (λ k l t. (l, t)) tt
 
-  pub held_long : All (λ p. (mrt ≤ hours p) ⊎ (p.last ≡ length flags)) (after_mrt mrt flags)
+  pub held_long : AllByRecursion (λ p. (mrt ≤ hours p) ⊎ (p.last ≡ length flags)) (after_mrt mrt flags)
   held_long = runs_long (idle mrt flags 1) (length flags) (omega arith)
 
 -- an hour that does not belong lies between two periods
-apart-after : (p : Stretch) (ps : List Stretch) (low : ℕ) → p.last + 2 ≤ low → Rising low ps → All (λ g. 1 ≤ g) (gaps ps) → All (λ g. 1 ≤ g) (gaps_after p ps)
+apart-after : (p : Stretch) (ps : List Stretch) (low : ℕ) → p.last + 2 ≤ low → Rising low ps → AllByRecursion (λ g. 1 ≤ g) (gaps ps) → AllByRecursion (λ g. 1 ≤ g) (gaps_after p ps)
 apart-after p [] low l r all = tt
 apart-after p (q ∷ qs) low l r all = (omega arith, all)
 
-runs-apart : {mrt h : ℕ} {began : Option ℕ} {flags : List Bool} {ps : List Stretch} → Runs mrt h began flags ps → All (λ g. 1 ≤ g) (gaps ps)
+runs-apart : {mrt h : ℕ} {began : Option ℕ} {flags : List Bool} {ps : List Stretch} → Runs mrt h began flags ps → AllByRecursion (λ g. 1 ≤ g) (gaps ps)
 runs-apart ends_idle = tt
 runs-apart (ends_running lt) = tt
 runs-apart (idles r) = runs-apart r

@@ -1,6 +1,6 @@
 -- Step 3: each join is of the two periods with the smallest gap, the earliest on a tie, and joins are made while there are too many periods.
 use Rattle.std.proofs.Common.{◌≡◌, ℕ, zero, suc, ◌+◌, ◌-◌, ◌<◌, ◌≤◌, ltb, ◌⊎◌, List, [], ◌∷◌, ◌++◌, length, Some, sym, refl, ap, ◌∙◌, subst, inl, inr, arith, length-append}
-use Rattle.std.specs.List.{AllByRecursion as All}
+use Rattle.std.specs.List.{AllByRecursion}
 use Rattle.std.proofs.lemmas.Bool.{cond_both, ltb-true, ltb-false, eq-eqb, ne_eqb}
 use Rattle.commitment.specs.declared.gaps.Choice.TheVariants.{Number}
 use Rattle.commitment.specs.declared.gaps.Gap.{Gap}
@@ -14,7 +14,7 @@ use Rattle.commitment.proofs.Fills.{Fills, empty, single, fill-fills, fills_risi
 
 -- g is f, and no gap of xs is smaller; or g is smaller than f, it has the position i or a later one, and `Later` holds
 abbrev Best : Gap → Gap → ℕ → List ℕ → Type 0 → Type 0
-Best g f i xs Later = ((g.at ≡ f.at) × (g.hours ≡ f.hours) × All (λ y. f.hours ≤ y) xs) ⊎ ((i ≤ g.at) × (g.hours < f.hours) × Later)
+Best g f i xs Later = ((g.at ≡ f.at) × (g.hours ≡ f.hours) × AllByRecursion (λ y. f.hours ≤ y) xs) ⊎ ((i ≤ g.at) × (g.hours < f.hours) × Later)
 
 -- g is the smallest gap, the earliest on a tie; the positions count from i
 abbrev Least : Gap → ℕ → List ℕ → Type 0
@@ -48,7 +48,7 @@ gaps-before p q a (b ∷ bs) qs rest e = let same : b ≡ q = cc in ap (λ x. ga
 abbrev JoinedOver : ℕ → List Stretch → List Stretch → Type 0
 JoinedOver n ps qs = (j : Joined ps qs) × (gap j.one j.next ≡ n)
 
-join_now : (n : ℕ) (p q : Stretch) (qs rs : List Stretch) → n ≡ gap p q → All (λ x. gap p q ≤ x) (gaps_after q qs) → rs ≡ join p q ∷ qs → JoinedOver n (p ∷ (q ∷ qs)) rs
+join_now : (n : ℕ) (p q : Stretch) (qs rs : List Stretch) → n ≡ gap p q → AllByRecursion (λ x. gap p q ≤ x) (gaps_after q qs) → rs ≡ join p q ∷ qs → JoinedOver n (p ∷ (q ∷ qs)) rs
 join_now n p q qs rs over least same = (
   record {
     before = [];

@@ -7,7 +7,7 @@
 --   JoinedDown      joins, while there are more periods than the limit
 --   SelfCommitted   the laws of a day
 use Rattle.std.specs.Prelude.{◌≡◌, ℕ, ◌+◌, ◌<◌, ◌≤◌, Bool, ◌⊎◌, List, [], ◌∷◌, ◌++◌, length}
-use Rattle.std.specs.List.{AllByRecursion as All}
+use Rattle.std.specs.List.{AllByRecursion}
 use Rattle.commitment.specs.declared.stretch.Stretch.{Stretch}
 use Rattle.commitment.specs.Stretches.{hours, gap, gaps}
 use Rattle.commitment.specs.StretchLaws.{Marked, Within, In}
@@ -35,8 +35,8 @@ pub record Joined (ps qs : List Stretch) : Type 0 where
   pub after : List Stretch
   pub were : ps ≡ before ++ (one ∷ (next ∷ after))
   pub are : qs ≡ before ++ (join one next ∷ after)
-  pub smallest_gap : All (λ g. gap one next ≤ g) (gaps ps)
-  pub earliest_on_a_tie : All (λ g. gap one next < g) (gaps (before ++ (one ∷ [])))
+  pub smallest_gap : AllByRecursion (λ g. gap one next ≤ g) (gaps ps)
+  pub earliest_on_a_tie : AllByRecursion (λ g. gap one next < g) (gaps (before ++ (one ∷ [])))
 
 pub data JoinedDown (limit : ℕ) : List Stretch → List Stretch → Type 0 where
   few_enough : (ps : List Stretch) → length ps ≤ limit → JoinedDown limit ps ps
@@ -47,7 +47,7 @@ pub record SelfCommitted (mrt mdt mds : ℕ) (carried : Bool) (flags : List Bool
   -- flagged, held by minimum run time, in a gap shorter than MDT, or in a gap that a join filled
   pub others_have_a_reason : (h : ℕ) → In (periods mrt mdt mds carried flags) h
       → Flagged flags h ⊎ (HeldOn mrt (after_mrt mrt flags) h ⊎ (Between (λ g. g < mdt) (after_mrt mrt flags) h ⊎ Between (λ _. Unit {0}) (after_mdt mrt mdt flags) h))
-  pub long_enough : All (λ p. (mrt ≤ hours p) ⊎ (p.last ≡ length flags)) (after_mrt mrt flags)
-  pub far_apart : All (λ g. mdt ≤ g) (gaps (after_mdt mrt mdt flags))
+  pub long_enough : AllByRecursion (λ p. (mrt ≤ hours p) ⊎ (p.last ≡ length flags)) (after_mrt mrt flags)
+  pub far_apart : AllByRecursion (λ g. mdt ≤ g) (gaps (after_mdt mrt mdt flags))
   pub joined_down : JoinedDown (limit_of mds carried (after_mdt mrt mdt flags)) (after_mdt mrt mdt flags) (periods mrt mdt mds carried flags)
   pub few_remain : length (periods mrt mdt mds carried flags) ≤ limit_of mds carried (after_mdt mrt mdt flags)

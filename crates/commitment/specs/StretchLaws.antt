@@ -5,7 +5,7 @@
 --   In        the hour lies in one of the stretches
 --   Longest   the stretches are the longest ones of marked hours
 use Rattle.std.specs.Prelude.{◌≡◌, ℕ, ◌-◌, ◌≤◌, Bool, true, false, ◌⊎◌, List, [], ◌∷◌, slice_index_or}
-use Rattle.std.specs.List.{AllByRecursion as All}
+use Rattle.std.specs.List.{AllByRecursion}
 use Rattle.commitment.specs.declared.stretch.Stretch.{Stretch}
 use Rattle.commitment.specs.Stretches.{gaps}
 
@@ -23,4 +23,4 @@ pub record Longest (marks : List Bool) (ps : List Stretch) : Type 0 where
   pub marked_hours_lie_in_one : (h : ℕ) → Marked marks h → In ps h
   pub their_hours_are_marked : (h : ℕ) → In ps h → Marked marks h
   -- so that none could be longer
-  pub an_hour_lies_between : All (λ g. 1 ≤ g) (gaps ps)
+  pub an_hour_lies_between : AllByRecursion (λ g. 1 ≤ g) (gaps ps)

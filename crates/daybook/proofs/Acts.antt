@@ -1,5 +1,5 @@
 -- What an act answers, by what its tests told.
-use Rattle.std.proofs.Common.{◌≡◌, ℕ, Bool, true, false, cond, List, [], ◌∷◌, is_some, Some, None, Ok, Err, Option, Result, sym, refl, ap, ◌∙◌, arith}
+use Rattle.std.proofs.Common.{◌≡◌, ℕ, Bool, true, false, cond, [], ◌∷◌, is_some, Some, None, Ok, Err, Option, Result, sym, refl, ap, ◌∙◌, arith}
 use Rattle.std.specs.Option.{option_map, option_or, ok_or}
 use Rattle.refusal.specs.declared.cause.Refusal.{Refusal}
 use Rattle.refusal.specs.declared.cause.Refusal.TheVariants.{NotRegistered, InUse, Full, DraftOut}
@@ -9,12 +9,10 @@ use Rattle.figures.specs.declared.standing.Unit.{Unit as Sort}
 use Rattle.std.proofs.lemmas.Bool.{cond-true, cond-false}
 use Rattle.figures.specs.declared.standing.Resource.{Resource as Entry}
 use Rattle.figures.specs.Prices.{first}
-use Rattle.table.specs.Entries.{lookup}
-use Rattle.figures.specs.Entries.{member_key, place_key, resource_key}
 use Rattle.daybook.specs.Calls.{Act, brings}
 use Rattle.daybook.specs.Changes.{unless, replied, done, Answers}
 use Rattle.daybook.specs.Due.{due_to, registered, a_member, a_place, a_resource, is_full, is_a}
-use Rattle.daybook.specs.Finding.{found_as_lem}
+use Rattle.daybook.specs.Finding.{found_as}
 use Rattle.daybook.specs.Held.{Held}
 use Rattle.daybook.specs.Records.{resource}
 
@@ -50,7 +48,7 @@ accepted a v w free is = record {
   holds = is ∙ ap (λ o. unless o (done a v) v) (sym free);
 }
 
-pub found_as_lem : (kind : Sort → Bool) (id : ℕ) (o : Option Entry) (r : Entry) → Ok r ≡ found_as_lem kind id o → (o ≡ Some r) × (is_a kind o ≡ true)
+pub found_as_lem : (kind : Sort → Bool) (id : ℕ) (o : Option Entry) (r : Entry) → Ok r ≡ found_as kind id o → (o ≡ Some r) × (is_a kind o ≡ true)
 found_as_lem kind id None r h = let z : ◌≡◌ {A = ℕ} 0 1 = cc in absurd (omega arith)
 found_as_lem kind id (Some x) r h = go (kind x.unit) refl
   where

@@ -1,5 +1,5 @@
 -- An hour that is posted twice, and one that is posted and struck.
-use Rattle.std.proofs.Common.{◌≡◌, ℕ, ◌-◌, Bool, true, false, cond, eqb, List, [], ◌∷◌, ℤ, is_some, Some, None, Ok, Err, Option, Result, sym, refl, ap, ◌∙◌, subst, ⊎_elim, arith}
+use Rattle.std.proofs.Common.{◌≡◌, ℕ, ◌-◌, Bool, cond, eqb, List, [], ◌∷◌, ℤ, is_some, Some, None, Ok, Err, Option, Result, sym, refl, ap, ◌∙◌, ⊎_elim}
 use Rattle.std.specs.Option.{option_map, option_or}
 use Rattle.std.proofs.lemmas.List.{set-set, set-get_or}
 use Rattle.std.proofs.lemmas.Bool.{cond-true, cond-false, eq-eqb, eqb-true, cases_Bool, both_ways}
@@ -11,11 +11,9 @@ use Rattle.hours.specs.declared.day.Hour.{Hour}
 use Rattle.hours.specs.declared.records.HourRecord.{HourRecord}
 use Rattle.hours.specs.declared.records.Price.{Price}
 use Rattle.hours.specs.Days.{slot_at, placed}
-use Rattle.figures.specs.declared.standing.Place.{Place as Spot}
 use Rattle.figures.specs.declared.standing.Resource.{Resource as Entry}
 use Rattle.figures.specs.declared.standing.Unit.{Unit as Sort}
 use Rattle.figures.specs.Entries.{place_key, resource_key, is_generator}
-use Rattle.figures.specs.Prices.{first}
 use Rattle.daybook.specs.declared.id.Id.{Id}
 use Rattle.daybook.specs.Calls.{Call, strike, Act, brings, takes, slot_from, brings_hour, asked}
 use Rattle.daybook.specs.Changes.{updated, with_price, with_hour, hour_changed, done, unless, after_act, after_if, after, Follows}
@@ -27,7 +25,7 @@ use Rattle.daybook.specs.Records.{Record, price, generator_hour, load_hour, the_
 use Rattle.daybook.proofs.Lawful.{nothing_was_due}
 use Rattle.daybook.proofs.Standing.{found_changed}
 use Rattle.daybook.proofs.Taking.{from-into, from-both}
-use Rattle.daybook.proofs.Updates.{found_here, with_hours}
+use Rattle.daybook.proofs.Updates.{with_hours}
 
 module _ {E : Type 0} (key : E → ℕ) (k : ℕ) where
   -- the second change leaves nothing of the first

@@ -1,10 +1,11 @@
 -- What the changes of a table keep: what is named is still there, and ids are still ids.
-use Rattle.std.proofs.Common.{◌≡◌, ℕ, ◌-◌, ◌≤◌, Bool, true, false, cond, ◌&&◌, ◌||◌, eqb, ltb, leb, List, [], ◌∷◌, map, length, is_some, is_ok, Some, None, Option, sym, refl, ap, ◌∙◌, ⊎_elim, length-set}
+use Rattle.std.proofs.Common.{◌≡◌, ℕ, ◌-◌, ◌≤◌, Bool, true, false, cond, eqb, ltb, leb, List, [], ◌∷◌, map, length, is_some, is_ok, Some, Option, sym, refl, ap, ◌∙◌, ⊎_elim, length-set}
 use Rattle.std.proofs.lemmas.Bool.{and_parts, and_from, or_cases, or_left, or_right, cond_both, cond-false, eq-eqb, eqb-true, le-leb, cases_Bool, true≢false}
 use Rattle.table.specs.Entries.{lookup, inserted, replaced}
 use Rattle.table.specs.Tables.{insert_reply, insert_after}
 use Rattle.figures.specs.declared.standing.Resource.{Resource}
-use Rattle.figures.specs.Owners.{among, all_named}
+use Rattle.figures.specs.Named.{all_named}
+use Rattle.figures.specs.Owners.{among}
 use Rattle.hours.specs.Days.{placed}
 use Rattle.daybook.specs.Numbers.{every, all_ids, whole_day}
 use Rattle.daybook.proofs.Updates.{found_here}

@@ -1,8 +1,8 @@
 -- What a call's answer and effect tell of the records that stand.
-use Rattle.std.proofs.Common.{◌≡◌, ℕ, true, Some, None, Ok, Err, Option, Result, sym, refl, ap, ◌∙◌, subst, arith}
+use Rattle.std.proofs.Common.{◌≡◌, true, Some, None, Ok, Err, Result, sym, refl, ap, ◌∙◌, subst}
 use Rattle.refusal.specs.declared.cause.Refusal.{Refusal}
 use Rattle.daybook.specs.Calls.{Call, Act, asked}
-use Rattle.daybook.specs.Changes.{unless, replied, done, after_if, after, Follows}
+use Rattle.daybook.specs.Changes.{unless, done, after_if, Follows}
 use Rattle.daybook.specs.Due.{due_to, due_if, due}
 use Rattle.daybook.specs.Held.{Held}
 use Rattle.daybook.specs.Laws.{Acted, Recorded}

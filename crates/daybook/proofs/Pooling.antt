@@ -1,14 +1,14 @@
 -- The members of a book own all its resources, each once, so that what they come to adds up.
-use Rattle.std.proofs.Common.{◌≡◌, ℕ, ◌≤◌, true, false, not, ◌&&◌, eqb, ltb, List, [], ◌∷◌, map, length, ℤ, nat_abs, IfOk, Ok, Err, Result, sym, refl, ap, ◌∙◌, subst, arith}
+use Rattle.std.proofs.Common.{◌≡◌, ℕ, ◌≤◌, true, false, ◌&&◌, ltb, List, [], ◌∷◌, length, ℤ, nat_abs, IfOk, Ok, Err, Result, sym, refl, ap, ◌∙◌, subst, arith}
 use Rattle.std.proofs.lemmas.List.{length-map}
 use Rattle.std.proofs.lemmas.Bool.{and_parts, and_from, or_from, ltb-true, ne_eqb, not_from_false}
-use Rattle.sharing.specs.declared.rows.MemberRow.{MemberRow}
 use Rattle.sharing.specs.Admission.{most_total}
 use Rattle.table.specs.Entries.{rises_from, rises, Rising}
 use Rattle.figures.specs.declared.standing.Place.{Place}
 use Rattle.figures.specs.declared.standing.Resource.{Resource}
 use Rattle.figures.specs.Entries.{member_key, ids_of_members}
 use Rattle.figures.specs.Figures.{member_row}
+use Rattle.figures.specs.Named.{all_members}
 use Rattle.figures.specs.Owners.{among, apart, all_owned, Owners, ByMembers, RowsOfAll}
 use Rattle.daybook.specs.Held.{Held}
 use Rattle.daybook.specs.Questions.{rows_of, Pooled, Shareable}
@@ -30,9 +30,13 @@ rising_apart : (ids : List ℕ) → rises ids ≡ true → apart ids ≡ true
 rising_apart [] h = refl
 rising_apart (id ∷ ids) h = and_from _ _ (not_from_false _ (not-among id id ids (omega arith) h)) (apart_from id ids h)
 
-module _ (v : Held) (rise : Rising member_key v.members) (owned : all_owned (ids_of_members v.members) v.resources ≡ true) where
+members_own : (ids : List ℕ) (rs : List Resource) → all_members ids rs ≡ all_owned ids rs
+members_own ids [] = refl
+members_own ids (r ∷ rs) = ap (λ b. among ids r.member && b) (members_own ids rs)
+
+module _ (v : Held) (rise : Rising member_key v.members) (owned : all_members (ids_of_members v.members) v.resources ≡ true) where
   owners : Owners (ids_of_members v.members) v.resources
-  owners = record { nobody_twice = rising_apart (ids_of_members v.members) rise; nobody_left_out = owned }
+  owners = record { nobody_twice = rising_apart (ids_of_members v.members) rise; nobody_left_out = sym (members_own (ids_of_members v.members) v.resources) ∙ owned }
 
   pub pooled : (ps : List Place) (rs : List Resource) → ps ≡ v.places → rs ≡ v.resources → (p : ℤ × ℕ) → ByMembers ps rs p → (nat_abs p.0 ≤ most_total) × (p.1 ≤ most_total) → Pooled v p
   pooled ps rs e f p sums bound =

@@ -6,7 +6,9 @@ use Rattle.hours.specs.declared.records.Price.{Price}
 use Rattle.tariff.specs.declared.generator.Generator.{Generator}
 use Rattle.figures.specs.declared.standing.MissingPrice.{MissingPrice}
 use Rattle.figures.specs.declared.standing.Resource.{Resource}
-use Rattle.figures.specs.Prices.{prices_at, resource_missing, refusal_of, unless_missing, priced_day}
+use Rattle.figures.specs.Pots.{unless_missing}
+use Rattle.figures.specs.Priced.{refusal_of, priced_day}
+use Rattle.figures.specs.Prices.{prices_at, resource_missing}
 use Rattle.daybook.specs.Held.{Held}
 use Rattle.daybook.specs.Questions.{given, generator_asked}
 

@@ -1,5 +1,5 @@
 -- What stands under each name once an act is done.
-use Rattle.std.proofs.Common.{◌≡◌, ℕ, ◌-◌, ◌<◌, Bool, true, false, cond, eqb, List, [], ◌∷◌, length, get_or, replicate, is_some, Some, None, Option, sym, refl, ap, ◌∙◌, ⊎_elim, arith}
+use Rattle.std.proofs.Common.{◌≡◌, ℕ, ◌-◌, Bool, true, false, cond, eqb, List, [], ◌∷◌, length, get_or, replicate, is_some, Some, None, Option, sym, refl, ap, ◌∙◌, ⊎_elim, arith}
 use Rattle.std.specs.Option.{option_map, option_or}
 use Rattle.std.proofs.lemmas.List.{get_or-replicate, get_or-set_same, get_or-set_other, get_or_past}
 use Rattle.std.proofs.lemmas.Bool.{cond-true, cond-false, eq-eqb, ne_eqb, eqb-true, cases_Bool, cases_eq, cases_lt, not-true, both_ways}
@@ -12,15 +12,14 @@ use Rattle.hours.specs.declared.records.HourRecord.{HourRecord}
 use Rattle.hours.specs.declared.records.Price.{Price}
 use Rattle.hours.specs.Days.{slot_at, placed}
 use Rattle.hours.proofs.Made.{same_number}
-use Rattle.figures.specs.declared.standing.Place.{Place}
 use Rattle.figures.specs.declared.standing.Resource.{Resource}
 use Rattle.figures.specs.declared.standing.Unit.{Unit as Sort}
 use Rattle.figures.specs.Entries.{member_key, place_key, resource_key, new_member, new_place, new_resource, is_generator}
 use Rattle.daybook.specs.Calls.{Act, brings, takes}
 use Rattle.daybook.specs.Changes.{updated, with_price, with_hour, hour_changed, done}
 use Rattle.daybook.specs.Due.{is_a, is_load, due_to}
-use Rattle.daybook.specs.Held.{Held, with_places}
-use Rattle.daybook.specs.Laws.{Brought, Gone, Acted}
+use Rattle.daybook.specs.Held.{Held}
+use Rattle.daybook.specs.Laws.{Acted}
 use Rattle.daybook.specs.Numbers.{every, whole_day, has_whole_prices, has_whole_hours}
 use Rattle.daybook.specs.Records.{Record, member, place, resource, price, generator_hour, load_hour, Name, the_member, the_place, the_resource, the_price, the_hour, member_in, place_in, resource_in, price_in, posted_to, hour_in, in_entry, standing}
 use Rattle.daybook.proofs.Keeping.{found_passes}

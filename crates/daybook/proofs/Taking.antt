@@ -1,12 +1,12 @@
 -- What is read of two lists of numbers, one behind the other.
-use Rattle.std.proofs.Common.{◌≡◌, ℕ, suc, ◌+◌, ◌^◌, ◌<◌, ◌≤◌, Bool, true, false, cond, ◌&&◌, List, [], ◌∷◌, ◌++◌, length, ℤ, IfErr, Ok, Err, Result, sym, refl, ap, ◌∙◌, ⊎_elim, zero-add, arith, w64, SFits, to_z, of_z, MatchResult}
+use Rattle.std.proofs.Common.{◌≡◌, ℕ, suc, ◌+◌, ◌^◌, ◌<◌, ◌≤◌, Bool, true, false, cond, ◌&&◌, List, [], ◌∷◌, ◌++◌, length, ℤ, IfErr, Ok, Err, Result, sym, refl, ap, ◌∙◌, zero-add, arith, w64, SFits, to_z, of_z, MatchResult}
 use Rattle.std.proofs.lemmas.Int.{to_z-of_z}
-use Rattle.std.proofs.lemmas.Bool.{cond-true, cond-false, cond_both, and_parts, and_from, and_cases, and_left, both_ways}
+use Rattle.std.proofs.lemmas.Bool.{cond-true, cond-false, cond_both, and_parts, and_from, and_left, both_ways}
 use Rattle.refusal.specs.declared.cause.Refusal.{Refusal}
 use Rattle.refusal.specs.declared.cause.Refusal.TheVariants.{FieldOutOfRange}
 use Rattle.hours.specs.declared.range.Field.{Field}
 use Rattle.hours.specs.declared.range.OutOfRange.{OutOfRange}
-use Rattle.hours.specs.Ranges.{fits, all_fit, first_out_lem, out_of_range_lem, when_true, made, Outside}
+use Rattle.hours.specs.Ranges.{fits, all_fit, first_out, out_of_range, when_true, made}
 use Rattle.hours.proofs.Ranges.{made-is, refused-is}
 use Rattle.hours.specs.declared.day.Hour.{Hour}
 use Rattle.daybook.specs.declared.id.Id.{Id}
@@ -25,47 +25,47 @@ fit_join : (fs gs : List Field) → all_fit fs ≡ true → all_fit gs ≡ true 
 fit_join [] gs h k = k
 fit_join (f ∷ fs) gs h k = let p = and_parts (fits f) (all_fit fs) h in and_from _ _ p.0 (fit_join fs gs p.1 k)
 
-out-before : (fs gs : List Field) (n : ℕ) → all_fit fs ≡ false → (all_fit (fs ++ gs) ≡ false) × (first_out_lem n (fs ++ gs) ≡ first_out_lem n fs)
+out-before : (fs gs : List Field) (n : ℕ) → all_fit fs ≡ false → (all_fit (fs ++ gs) ≡ false) × (first_out n (fs ++ gs) ≡ first_out n fs)
 out-before [] gs n h = absurd (both_ways _ h refl)
 out-before (f ∷ fs) gs n h = go (fits f) refl (out-before fs gs (n + 1))
   where
-    go : (b : Bool) → fits f ≡ b → (all_fit fs ≡ false → (all_fit (fs ++ gs) ≡ false) × (first_out_lem (n + 1) (fs ++ gs) ≡ first_out_lem (n + 1) fs))
-        → (all_fit (f ∷ fs ++ gs) ≡ false) × (first_out_lem n (f ∷ fs ++ gs) ≡ first_out_lem n (f ∷ fs))
+    go : (b : Bool) → fits f ≡ b → (all_fit fs ≡ false → (all_fit (fs ++ gs) ≡ false) × (first_out (n + 1) (fs ++ gs) ≡ first_out (n + 1) fs))
+        → (all_fit (f ∷ fs ++ gs) ≡ false) × (first_out n (f ∷ fs ++ gs) ≡ first_out n (f ∷ fs))
     go true e more =
         let k = more (ap (λ b. b && all_fit fs) (sym e) ∙ h) in
         (ap (λ b. b && all_fit (fs ++ gs)) e ∙ k.0, cond-true _ _ _ e ∙ k.1 ∙ sym (cond-true _ _ _ e))
     go false e more = (and_left _ _ e, cond-false _ _ _ e ∙ sym (cond-false _ _ _ e))
 
-out-behind : (fs gs : List Field) (n : ℕ) → all_fit fs ≡ true → all_fit gs ≡ false → (all_fit (fs ++ gs) ≡ false) × (first_out_lem n (fs ++ gs) ≡ first_out_lem (length fs + n) gs)
-out-behind [] gs n h k = (k, ap (λ m. first_out_lem m gs) (sym (zero-add n)))
+out-behind : (fs gs : List Field) (n : ℕ) → all_fit fs ≡ true → all_fit gs ≡ false → (all_fit (fs ++ gs) ≡ false) × (first_out n (fs ++ gs) ≡ first_out (length fs + n) gs)
+out-behind [] gs n h k = (k, ap (λ m. first_out m gs) (sym (zero-add n)))
 out-behind (f ∷ fs) gs n h k =
     let p = and_parts (fits f) (all_fit fs) h in
     let q = out-behind fs gs (n + 1) p.1 k in
     let m : length fs + (n + 1) ≡ suc (length fs) + n = omega arith in
-    (ap (λ b. fits f && b) q.0 ∙ ap (λ b. b && false) p.0, cond-true _ _ _ p.0 ∙ q.1 ∙ ap (λ i. first_out_lem i gs) m)
+    (ap (λ b. fits f && b) q.0 ∙ ap (λ b. b && false) p.0, cond-true _ _ _ p.0 ∙ q.1 ∙ ap (λ i. first_out i gs) m)
 
-counted_on : (fs : List Field) (n m : ℕ) → first_out_lem (n + m) fs ≡ n + first_out_lem m fs
+counted_on : (fs : List Field) (n m : ℕ) → first_out (n + m) fs ≡ n + first_out m fs
 counted_on [] n m = refl
 counted_on (f ∷ fs) n m =
-    let more : first_out_lem (n + m + 1) fs ≡ n + first_out_lem (m + 1) fs = ap (λ i. first_out_lem i fs) (the_sum n m) ∙ counted_on fs n (m + 1) in
-    elim (fits f) as (λ b. cond b (first_out_lem (n + m + 1) fs) (n + m) ≡ n + cond b (first_out_lem (m + 1) fs) m) [ true ↦ more | false ↦ refl ]
+    let more : first_out (n + m + 1) fs ≡ n + first_out (m + 1) fs = ap (λ i. first_out i fs) (the_sum n m) ∙ counted_on fs n (m + 1) in
+    elim (fits f) as (λ b. cond b (first_out (n + m + 1) fs) (n + m) ≡ n + cond b (first_out (m + 1) fs) m) [ true ↦ more | false ↦ refl ]
   where
     the_sum : (a b : ℕ) → a + b + 1 ≡ a + (b + 1)
     the_sum a b = omega arith
 
-within : (fs : List Field) (n : ℕ) → first_out_lem n fs ≤ n + length fs
+within : (fs : List Field) (n : ℕ) → first_out n fs ≤ n + length fs
 within [] n = omega arith
 within (f ∷ fs) n =
     let k = within fs (n + 1) in
-    cond_both (fits f) (first_out_lem (n + 1) fs) n (λ m. m ≤ n + suc (length fs)) (λ _. omega arith) (λ _. omega arith)
+    cond_both (fits f) (first_out (n + 1) fs) n (λ m. m ≤ n + suc (length fs)) (λ _. omega arith) (λ _. omega arith)
 
 -- a position is small, so that the numbers before it can be added
 pub small : {X : Type 0} (n : ℕ) (fs : List Field) (make : all_fit fs ≡ true → X) (r : Result X OutOfRange) → r ≡ made fs make → n + length fs < 1000
     → IfErr r (λ e. n + e.field < 2 ^ 64)
 small n fs make (Ok x) is few = tt
 small n fs make (Err e) is few =
-    let k = told (all_fit fs) make (out_of_range_lem fs) 0 (Err (FieldOutOfRange (0 + e.field))) (ap (behind 0) (sym is)) in
-    let same : 0 + e.field ≡ 0 + first_out_lem 1 fs = (let p = k.1 in cc) in
+    let k = told (all_fit fs) make (out_of_range fs) 0 (Err (FieldOutOfRange (0 + e.field))) (ap (behind 0) (sym is)) in
+    let same : 0 + e.field ≡ 0 + first_out 1 fs = (let p = k.1 in cc) in
     omega (arith, same, within fs 1)
 
 -- a number that is handed on is the number that came in
@@ -77,12 +77,12 @@ module _ {X : Type 0} (r : Reading X) (n : ℕ) where
   pub read_at : (h : all_fit r.fields ≡ true) → Ok (r.value h) ≡ behind n (made r.fields r.value)
   read_at h = ap (behind n) (made-is r.fields r.fields refl r.value (r.value h) h refl)
 
-  out_at : all_fit r.fields ≡ false → Err (FieldOutOfRange (n + first_out_lem 1 r.fields)) ≡ behind n (made r.fields r.value)
-  out_at h = ap (behind n) (refused-is r.fields r.fields refl r.value (Err (out_of_range_lem r.fields)) (out_of_range_lem r.fields) (out_of_range_lem r.fields) refl refl (record { test = h; first = refl }))
+  out_at : all_fit r.fields ≡ false → Err (FieldOutOfRange (n + first_out 1 r.fields)) ≡ behind n (made r.fields r.value)
+  out_at h = ap (behind n) (refused-is r.fields r.fields refl r.value (Err (out_of_range r.fields)) (out_of_range r.fields) (out_of_range r.fields) refl refl (record { test = h; first = refl }))
 
   pub tells : (x : Result X Refusal) → x ≡ behind n (made r.fields r.value)
-      → MatchResult x (λ a. (h : all_fit r.fields ≡ true) × (a ≡ r.value h)) (λ e. (all_fit r.fields ≡ false) × (e ≡ FieldOutOfRange (n + first_out_lem 1 r.fields)))
-  tells x is = told (all_fit r.fields) r.value (out_of_range_lem r.fields) n x (sym is)
+      → MatchResult x (λ a. (h : all_fit r.fields ≡ true) × (a ≡ r.value h)) (λ e. (all_fit r.fields ≡ false) × (e ≡ FieldOutOfRange (n + first_out 1 r.fields)))
+  tells x is = told (all_fit r.fields) r.value (out_of_range r.fields) n x (sym is)
 
 module _ {A B : Type 0} (r : Reading A) (s : Reading B) where
   pub read-first-out : (e : Refusal) → Err e ≡ read r → Err e ≡ read (both r s)
@@ -97,8 +97,8 @@ module _ {A B : Type 0} (r : Reading A) (s : Reading B) where
     read_second_out e out =
         let t = tells s n (Err e) out in
         let o = out-behind r.fields s.fields 1 (tells r 0 (Ok a) is).0 t.0 in
-        let at : n + first_out_lem 1 s.fields ≡ 0 + first_out_lem 1 (r.fields ++ s.fields) =
-        sym (counted_on s.fields n 1) ∙ ap (λ m. first_out_lem (m + 1) s.fields) many ∙ sym o.1 ∙ sym (zero-add _) in
+        let at : n + first_out 1 s.fields ≡ 0 + first_out 1 (r.fields ++ s.fields) =
+        sym (counted_on s.fields n 1) ∙ ap (λ m. first_out (m + 1) s.fields) many ∙ sym o.1 ∙ sym (zero-add _) in
         ap Err (t.1 ∙ ap FieldOutOfRange at) ∙ out_at (both r s) 0 o.0
 
     pub read-both : (b : B) → Ok b ≡ behind n (made s.fields s.value) → Ok (a, b) ≡ read (both r s)

@@ -1,5 +1,5 @@
 -- An entry that was found, changed and put back.
-use Rattle.std.proofs.Common.{◌≡◌, ℕ, true, false, cond, eqb, List, [], ◌∷◌, is_some, Some, None, sym, refl, ap, ◌∙◌, ⊎_elim}
+use Rattle.std.proofs.Common.{◌≡◌, ℕ, true, eqb, List, [], ◌∷◌, is_some, Some, sym, refl, ap, ◌∙◌, ⊎_elim}
 use Rattle.std.proofs.lemmas.Bool.{cond-true, cond-false, eq-eqb, ne_eqb, eqb-true, eqb-false, cases_Bool, true≢false}
 use Rattle.table.specs.Entries.{lookup, replaced}
 use Rattle.hours.specs.declared.day.Day.{Day}

@@ -4,7 +4,7 @@
 --   Act       what is asked for once all numbers are in range: a record is brought in, or an hour record taken away
 --   reading   the numbers of a call in their order, and the act that they are read as
 --   asked     that act, or the first field out of range
-use Rattle.std.specs.Prelude.{ℕ, List, ℤ, Result}
+use Rattle.std.specs.Prelude.{ℕ, ℤ, Result}
 use Rattle.refusal.specs.declared.cause.Refusal.{Refusal}
 use Rattle.hours.specs.declared.day.Hour.{Hour}
 use Rattle.hours.specs.declared.records.HourRecord.{HourRecord}

@@ -17,7 +17,7 @@ use Rattle.figures.specs.Entries.{member_key, place_key, resource_key, new_membe
 use Rattle.daybook.specs.Calls.{Call, Act, brings, takes, asked}
 use Rattle.daybook.specs.Due.{due_to, due}
 use Rattle.daybook.specs.Held.{Held, with_members, with_places, with_resources}
-use Rattle.daybook.specs.Records.{Record, member, place, resource, price, generator_hour, load_hour}
+use Rattle.daybook.specs.Records.{member, place, resource, price, generator_hour, load_hour}
 
 abbrev pub updated : {E : Type 0} → (E → ℕ) → ℕ → (E → E) → List E → List E
 updated key k f [] = []

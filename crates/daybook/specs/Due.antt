@@ -25,7 +25,7 @@ use Rattle.figures.specs.Entries.{member_key, place_key, resource_key, is_genera
 use Rattle.figures.specs.Prices.{first}
 use Rattle.daybook.specs.Calls.{Call, Act, brings, takes, asked}
 use Rattle.daybook.specs.Held.{Held}
-use Rattle.daybook.specs.Records.{Record, member, place, resource, price, generator_hour, load_hour, the_hour, standing}
+use Rattle.daybook.specs.Records.{member, place, resource, price, generator_hour, load_hour, the_hour, standing}
 
 pub data Cited : Type 0 where
   a_member : ℕ → Cited

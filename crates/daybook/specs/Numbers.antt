@@ -4,7 +4,7 @@
 --   all_ids      every id is at least 1; that it is at most 65,535, its type says
 --   whole_day    a day has twenty-four slots; has_whole_prices, has_whole_hours: those of a place and of a resource do
 --   draft_fits   at most 9,999 numbers are used, and the draft that is out has one of them
-use Rattle.std.specs.Prelude.{ℕ, Bool, true, false, ◌&&◌, List, [], ◌∷◌, length, Some, None, Option, ◌==◌, nat_le}
+use Rattle.std.specs.Prelude.{ℕ, Bool, true, ◌&&◌, List, [], ◌∷◌, length, Some, None, Option, ◌==◌, nat_le}
 use Rattle.figures.specs.declared.standing.Place.{Place}
 use Rattle.figures.specs.declared.standing.Resource.{Resource}
 

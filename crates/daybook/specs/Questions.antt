@@ -29,8 +29,8 @@ use Rattle.figures.specs.declared.standing.Resource.{Resource as Entry}
 use Rattle.figures.specs.Entries.{member_key, resource_key, ids_of_members, generator_in}
 use Rattle.figures.specs.Figures.{resource_demand, resource_deviation, total_by, member_energy, member_uplift, member_row}
 use Rattle.figures.specs.Owners.{member_rows}
-use Rattle.figures.specs.Pots.{pots}
-use Rattle.figures.specs.Prices.{prices_at, resource_missing, missing, unless_missing}
+use Rattle.figures.specs.Pots.{pots, unless_missing}
+use Rattle.figures.specs.Prices.{prices_at, resource_missing, missing}
 use Rattle.figures.specs.Standing.{of_member}
 use Rattle.daybook.specs.declared.id.Id.{Id}
 use Rattle.daybook.specs.Held.{Held}

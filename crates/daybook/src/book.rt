@@ -2,7 +2,7 @@ ghost use Rattle.std.specs.Prelude.{◌≡◌, ◌≤◌, true, map};
 ghost use Rattle.table.specs.Entries.{Rising};
 ghost use Rattle.table.specs.Tables.{entries, room};
 ghost use Rattle.figures.specs.Entries.{member_key, place_key, resource_key, ids_of_members, ids_of_places};
-ghost use Rattle.figures.specs.Owners.{all_owned, all_placed};
+ghost use Rattle.figures.specs.Named.{all_members, all_placed};
 ghost use Rattle.daybook.specs.Numbers.{every, all_ids, has_whole_prices, has_whole_hours, draft_fits};
 
 use figures::{Member, Place, Resource};
@@ -31,7 +31,7 @@ pub struct DayBook<'a> {
     ghost members_rise: { Rising member_key (entries members) },
     ghost places_rise: { Rising place_key (entries places) },
     ghost resources_rise: { Rising resource_key (entries resources) },
-    ghost owned: { all_owned (ids_of_members (entries members)) (entries resources) ≡ true },
+    ghost owned: { all_members (ids_of_members (entries members)) (entries resources) ≡ true },
     ghost placed: { all_placed (ids_of_places (entries places)) (entries resources) ≡ true },
     ghost member_ids: { all_ids (ids_of_members (entries members)) ≡ true },
     ghost place_ids: { all_ids (ids_of_places (entries places)) ≡ true },

@@ -1,6 +1,6 @@
 -- The rows of all members together.
 use Rattle.std.proofs.Common.{◌≡◌, ℕ, zero, suc, ◌+◌, ◌*◌, ◌≤◌, List, [], ◌∷◌, map, length, sum_by, sum, refl, ap, ◌∙◌, subst, add-one, arith}
-use Rattle.std.specs.List.{AllByRecursion as All}
+use Rattle.std.specs.List.{AllByRecursion}
 use Rattle.std.proofs.lemmas.Nat.{mul-le}
 use Rattle.std.proofs.lemmas.List.Sums.{sum-map}
 use Rattle.std.proofs.ByRecursion.{sum_by_le}
@@ -27,7 +27,7 @@ demand_of r = (day-size (demand_at r.hours.slots) 100000 (λ i. demand-size (rec
 deviation_of : (r : Resource) → resource_deviation r ≤ 4800000
 deviation_of r = (day-size (deviation_at r.hours.slots) 200000 (λ i. deviation-size (record_at r.hours.slots i)) 24).1
 
-each : {X : Type 0} (P : X → Type 0) → ((x : X) → P x) → (xs : List X) → All P xs
+each : {X : Type 0} (P : X → Type 0) → ((x : X) → P x) → (xs : List X) → AllByRecursion P xs
 each P h [] = tt
 each P h (x ∷ xs) = (h x, each P h xs)
 

@@ -4,5 +4,8 @@ pub mod Prices
 pub mod Figures
 pub mod Quantities
 pub mod Pots
+pub mod Priced
 pub mod Owners
+pub mod Named
+pub mod Rolls
 pub mod Worked

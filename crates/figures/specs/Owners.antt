@@ -2,17 +2,15 @@
 --
 --   among         an id is one of these
 --   apart         no id is there twice
---   all_named     what every resource names is one of these: all_owned, its member; all_placed, its place
+--   all_owned     the member of every resource is one of these
 --   Owners        ids of which both hold, as those of a pool's members do
 --   member_rows   the row of each member
---   listed        the rows that are kept, in their order
 --   ByMembers     the members' energies and uplifts add up to the two pots
 --   RowsOfAll     the members' rows add up to what all resources come to, within what a sharing rule takes
-use Rattle.std.specs.Prelude.{◌≡◌, ℕ, ◌≤◌, Bool, true, false, not, ◌&&◌, ◌||◌, List, [], ◌∷◌, map, take, ℤ, sum_by, sum, ◌==◌}
+use Rattle.std.specs.Prelude.{◌≡◌, ℕ, ◌≤◌, Bool, true, false, not, ◌&&◌, ◌||◌, List, [], ◌∷◌, map, ℤ, sum_by, sum, ◌==◌}
 use Rattle.sharing.specs.declared.rows.MemberRow.{MemberRow}
 use Rattle.sharing.specs.Admission.{most_energy}
 use Rattle.sharing.specs.Rows.{demands, deviations}
-use Rattle.figures.specs.declared.rows.Rows.{Rows}
 use Rattle.figures.specs.declared.standing.Place.{Place}
 use Rattle.figures.specs.declared.standing.Resource.{Resource}
 use Rattle.figures.specs.Figures.{resource_demand, resource_deviation, total_by, member_energy, member_uplift, member_row}
@@ -25,15 +23,9 @@ abbrev pub apart : List ℕ → Bool
 apart [] = true
 apart (id ∷ ids) = not (among ids id) && apart ids
 
-abbrev pub all_named : (Resource → ℕ) → List ℕ → List Resource → Bool
-all_named of ids [] = true
-all_named of ids (r ∷ rs) = among ids (of r) && all_named of ids rs
-
 abbrev pub all_owned : List ℕ → List Resource → Bool
-all_owned ids rs = all_named (λ r. r.member) ids rs
-
-abbrev pub all_placed : List ℕ → List Resource → Bool
-all_placed ids rs = all_named (λ r. r.place) ids rs
+all_owned ids [] = true
+all_owned ids (r ∷ rs) = among ids r.member && all_owned ids rs
 
 pub record Owners (ids : List ℕ) (rs : List Resource) : Type 0 where
   pub nobody_twice : apart ids ≡ true
@@ -45,9 +37,6 @@ pub record ByMembers (places : List Place) (rs : List Resource) (pots : ℤ × �
 
 abbrev pub member_rows : List Resource → List ℕ → List MemberRow
 member_rows rs ids = map (member_row rs) ids
-
-abbrev pub listed : Rows → List MemberRow
-listed rows = take rows.count rows.items
 
 pub record RowsOfAll (rs : List Resource) : Type 0 where
   pub demand : (ids : List ℕ) → Owners ids rs → sum (demands (member_rows rs ids)) ≡ sum_by resource_demand rs

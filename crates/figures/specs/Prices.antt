@@ -7,17 +7,11 @@
 --   missing_hour       the first unpriced hour, counted from 1
 --   resource_missing   the first hour record of a resource that lacks its price
 --   missing            the same along resources: by their order, then by rising hour
---   refusal_of         the refusal that tells it
---   unless_missing     a value, or the refusal where a price is missing for it
---   priced_day         the prices of a resource's place, unless one is missing
-use Rattle.std.specs.Prelude.{ℕ, ◌+◌, Bool, cond, not, ◌&&◌, List, [], ◌∷◌, replicate, is_some, Some, None, Ok, Err, Option, Result, ◌==◌, slice_index_or}
+use Rattle.std.specs.Prelude.{ℕ, ◌+◌, Bool, cond, not, ◌&&◌, List, [], ◌∷◌, replicate, is_some, Some, None, Option, ◌==◌, slice_index_or}
 use Rattle.std.specs.List.{range_with_len}
 use Rattle.std.specs.Option.{option_map, option_or, unwrap_or}
-use Rattle.hours.specs.declared.day.Day.{Day}
 use Rattle.hours.specs.declared.records.HourRecord.{HourRecord}
 use Rattle.hours.specs.declared.records.Price.{Price}
-use Rattle.refusal.specs.declared.cause.Refusal.{Refusal}
-use Rattle.refusal.specs.declared.cause.Refusal.TheVariants.{PriceMissing}
 use Rattle.figures.specs.declared.standing.MissingPrice.{MissingPrice}
 use Rattle.figures.specs.declared.standing.Place.{Place}
 use Rattle.figures.specs.declared.standing.Resource.{Resource}
@@ -54,13 +48,3 @@ resource_missing places r = option_map (missing_at r.id) (missing_hour r.hours.s
 
 abbrev pub missing : List Place → List Resource → Option MissingPrice
 missing places rs = first (resource_missing places) rs
-
-abbrev pub refusal_of : MissingPrice → Refusal
-refusal_of m = PriceMissing m.resource m.hour
-
-abbrev pub unless_missing : {X : Type 0} → Option MissingPrice → X → Result X Refusal
-unless_missing None x = Ok x
-unless_missing (Some m) x = Err (refusal_of m)
-
-abbrev pub priced_day : List Place → Resource → Result (Day Price) Refusal
-priced_day places r = unless_missing (resource_missing places r) (record { slots = prices_at places r.place })

@@ -14,6 +14,6 @@ mod standing;
 mod worked;
 
 pub use prices::prices_at;
-pub use rows::Rows;
+pub use rows::{Roll, Rows};
 pub use standing::{Member, MissingPrice, Place, Resource, Standing, Terms, Unit};
 pub use worked::worked_cases;

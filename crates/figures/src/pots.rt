@@ -17,7 +17,10 @@ impl<'a> Standing<'a> {
         ensures bound { IfOk result (λ p. (unsigned_abs p.0 ≤ most_total) × (p.1 ≤ most_total)) }
     {
         match self.missing_price() {
-            Some(missing) => Err(Refusal::from(missing)),
+            Some(missing) => Err(Refusal::PriceMissing {
+                resource: missing.resource,
+                hour: missing.hour,
+            }),
             None => {
                 let energy = sum_energy(self.places, self.resources, None);
                 let uplift = sum_quantity(Quantity::Uplift, self.places, self.resources, None);

@@ -1,6 +1,8 @@
 ghost use Rattle.std.specs.Prelude.{◌≡◌, ◌≤◌, IfOk, unsigned_abs};
 ghost use Rattle.figures.specs.Figures.{member_energy};
-ghost use Rattle.figures.specs.Prices.{missing, refusal_of, unless_missing, priced_day};
+ghost use Rattle.figures.specs.Pots.{unless_missing};
+ghost use Rattle.figures.specs.Priced.{refusal_of, priced_day};
+ghost use Rattle.figures.specs.Prices.{missing};
 ghost use Rattle.figures.specs.Standing.{places_in, resources_in, of_member};
 
 use crate::prices::prices_at;

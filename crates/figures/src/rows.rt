@@ -1,8 +1,17 @@
 ghost use Rattle.std.specs.Prelude.{◌≡◌, ◌≤◌, length};
 
+use crate::standing::{Member, Standing};
 use sharing::MemberRow;
 
 mod filling;
+
+// A pool's members beside the records that stand. A pool has at most 16 members.
+#[derive(Clone, Copy)]
+pub struct Roll<'a> {
+    pub members: &'a [Member],
+    pub standing: Standing<'a>,
+    ghost few: { length members.now ≤ 16 },
+}
 
 // The rows of a pool's members, in their order: the first `count` of the items.
 #[derive(Clone, Copy)]

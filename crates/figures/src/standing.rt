@@ -59,11 +59,10 @@ pub struct MissingPrice {
     pub hour: u8,
 }
 
-// The records that stand, lent for as long as they are added up. A pool has at most 16 members and 32 resources.
+// The records that stand, lent for as long as they are added up. A pool has at most 32 resources.
 #[derive(Clone, Copy)]
 pub struct Standing<'a> {
-    pub members: &'a [Member],
     pub places: &'a [Place],
     pub resources: &'a [Resource],
-    ghost few: { (length members.now ≤ 16) × (length resources.now ≤ 32) },
+    ghost few: { length resources.now ≤ 32 },
 }

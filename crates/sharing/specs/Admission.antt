@@ -11,7 +11,7 @@
 --   NobodyBears   a total above zero that no other test refuses, and every row without demand
 --   Exactly       the one holds just where the other does
 use Rattle.std.specs.Prelude.{◌≡◌, ℕ, ◌<◌, ◌≤◌, Bool, cond, ◌&&◌, ◌||◌, List, ◌++◌, length, drop, ℤ, pos, ◌≤ℤ◌, ◌<ℤ◌, Ok, Err, sum, Result, ◌==◌, int_lt, nat_lt, unsigned_abs}
-use Rattle.std.specs.List.{AllByRecursion as All}
+use Rattle.std.specs.List.{AllByRecursion}
 use Rattle.refusal.specs.declared.cause.Refusal.{Refusal}
 use Rattle.refusal.specs.declared.cause.Refusal.TheVariants.{FieldOutOfRange, TooFewRows, NoDemand}
 use Rattle.refusal.specs.declared.kinds.Pot.TheVariants.{Unnamed}
@@ -69,7 +69,7 @@ pub record NobodyBears (total : ℤ) (rows : List MemberRow) (there : ℕ) : Typ
   pub deviation_in_range : sum (deviations rows) ≤ most_energy
   pub room : length rows ≤ there
   -- so the sum of demand is in range, too
-  pub nobody_has_demand : All (λ r. r.demand ≡ 0) rows
+  pub nobody_has_demand : AllByRecursion (λ r. r.demand ≡ 0) rows
 
 abbrev pub Exactly : Type 0 → Type 0 → Type 0
 Exactly p q = (p → q) × (q → p)

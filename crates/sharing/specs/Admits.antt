@@ -1,7 +1,7 @@
 -- What it tells that a call is admitted or refused.
 use Rattle.std.specs.Prelude.{◌≡◌, ℕ, ◌<◌, ◌≤◌, List, [], ◌∷◌, length, ℤ, pos, negsuc, IfOk, Ok, Err, sum, Result, refl}
 use Rattle.std.proofs.Common.{sym, ap, ◌∙◌, arith}
-use Rattle.std.specs.List.{AllByRecursion as All}
+use Rattle.std.specs.List.{AllByRecursion}
 use Rattle.std.proofs.lemmas.Int.{ints}
 use Rattle.std.proofs.lemmas.Bool.Decides.{nat_tests}
 use Rattle.refusal.specs.declared.cause.Refusal.{Refusal}
@@ -11,13 +11,13 @@ use Rattle.sharing.specs.Admission.{most_total, admitted, no_demand, Due, Exactl
 use Rattle.sharing.specs.Quotients.{sum-cons}
 
 -- the sum of demand is zero just where each row's is
-none_each : (rows : List MemberRow) → sum (demands rows) ≡ 0 → All (λ r. r.demand ≡ 0) rows
+none_each : (rows : List MemberRow) → sum (demands rows) ≡ 0 → AllByRecursion (λ r. r.demand ≡ 0) rows
 none_each [] e = tt
 none_each (r ∷ rows) e =
     let s = sum-cons r.demand (demands rows) in
     (omega arith, none_each rows (omega arith))
 
-none-sum : (rows : List MemberRow) → All (λ r. r.demand ≡ 0) rows → sum (demands rows) ≡ 0
+none-sum : (rows : List MemberRow) → AllByRecursion (λ r. r.demand ≡ 0) rows → sum (demands rows) ≡ 0
 none-sum [] all = refl
 none-sum (r ∷ rows) all = omega (arith, sum-cons r.demand (demands rows), all.0, none-sum rows all.1)
 

@@ -1,12 +1,12 @@
 ghost use Rattle.std.specs.Prelude.{◌≡◌, IfOk};
-ghost use Rattle.figures.specs.Owners.{listed};
+ghost use Rattle.figures.specs.Rolls.{listed};
 ghost use Rattle.daybook.specs.Held.{held};
-ghost use Rattle.daybook.specs.Lending.{Lends};
+ghost use Rattle.daybook.specs.Lending.{Lends, CallsRoll};
 ghost use Rattle.daybook.specs.Questions.{member_asked, row_asked, energy_asked, rows_of, pots_of, Pooled, Shareable};
 
 use super::DayBook;
 use crate::id::{Id, behind};
-use figures::{Member, Rows, Standing};
+use figures::{Member, Roll, Rows, Standing};
 use refusal::Refusal;
 use sharing::MemberRow;
 
@@ -16,9 +16,17 @@ impl<'a> DayBook<'a> {
         ensures { Lends result (held self.now) }
     {
         Standing {
-            members: self.members.all(),
             places: self.places.all(),
             resources: self.resources.all(),
+        }
+    }
+
+    pub(crate) fn roll(&self) -> Roll<'_>
+        ensures { CallsRoll result (held self.now) }
+    {
+        Roll {
+            members: self.members.all(),
+            standing: self.standing(),
         }
     }
 
@@ -42,7 +50,7 @@ impl<'a> DayBook<'a> {
         ensures value { listed result ≡ rows_of (held self.now) }
         ensures law { Shareable (held self.now) (listed result) }
     {
-        self.standing().rows()
+        self.roll().rows()
     }
 
     // A member's energy lines, added up, in cents.

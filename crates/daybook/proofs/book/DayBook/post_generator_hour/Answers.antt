@@ -11,9 +11,9 @@ use Rattle.daybook.proofs.Followed.{out_of_range_lem, follows_act}
 use Rattle.daybook.proofs.Lawful.{recorded}
 use Rattle.daybook.proofs.Taking.{small, first_out_lem, second_out, both_read, slot-handed}
 use Rattle.daybook.proofs.book.DayBook.post_generator_hour.Goals as goal
-use Rattle.daybook.proofs.book.DayBook.post_generator_hour.Goals.{In-ok-resource, at·returns-in_err-record, at·returns}
+use Rattle.daybook.proofs.book.DayBook.post_generator_hour.Goals.{In_ok-resource}
 
-the-slot : (c : In-ok-resource) → Ok (c.in_ok-resource.resource, c.in_ok-resource.hour) ≡ read (slot_from c.args.resource c.args.hour)
+the-slot : (c : In_ok-resource) → Ok (c.in_ok-resource.resource, c.in_ok-resource.hour) ≡ read (slot_from c.args.resource c.args.hour)
 the-slot c = slot-handed c.args.resource c.args.hour c.ranges.resource c.ranges.hour _ c.in_ok-resource.ensures
 
 pub returns-in_err-resource : goal.returns-in_err-resource
@@ -34,7 +34,7 @@ returns-in_err-record c =
     let y = err_from_is_err_and c.from_residual-in_err-record.result c.from_residual-in_err-record.ensures.1 in
     let out = c.in_err-record.ensures ∙ ap (behind 2) c.of_generator-posted.ensures ∙ (λ i. behind 2 (made-hour (to_z-of_z w64 a c.ranges.day_ahead i) (to_z-of_z w64 b c.ranges.meter i) (to_z-of_z w64 d c.ranges.self_schedule i) (to_z-of_z w64 e c.ranges.commit i))) in
     let o = c.args.self.now in
-    let f = out_of_range_lem (post_generator_hour k h a b d e) (held o) _ _ _ y.1 y.2 (second_out (brings_hour generator_hour) (slot_from k h) (generator_hour_from a b d e) 2 refl _ (the-slot (at·returns-in_err-record c).In-ok-resource) _ out) in
+    let f = out_of_range_lem (post_generator_hour k h a b d e) (held o) _ _ _ y.1 y.2 (second_out (brings_hour generator_hour) (slot_from k h) (generator_hour_from a b d e) 2 refl _ (the-slot (goal.at.returns-in_err-record c).In_ok-resource) _ out) in
     record { follows = f; law = recorded (post_generator_hour k h a b d e) _ _ _ f o.prices_whole o.hours_whole; again = λ da mw own on. counts generator_hour (post_generator_hour k h da mw own on) (post_generator_hour k h a b d e) k h (generator_hour_from da mw own on) (generator_hour_from a b d e) refl refl generator-twice _ _ _ f }
 
 pub returns : goal.returns
@@ -42,5 +42,5 @@ returns c =
     let k = c.args.resource in let h = c.args.hour in let a = c.args.day_ahead in let b = c.args.meter in let d = c.args.self_schedule in let e = c.args.commit in
     let was = c.in_ok-record.ensures ∙ ap (behind 2) c.of_generator-posted.ensures ∙ (λ i. behind 2 (made-hour (to_z-of_z w64 a c.ranges.day_ahead i) (to_z-of_z w64 b c.ranges.meter i) (to_z-of_z w64 d c.ranges.self_schedule i) (to_z-of_z w64 e c.ranges.commit i))) in
     let o = c.args.self.now in
-    let f = follows_act (post_generator_hour k h a b d e) _ _ _ _ (both_read (brings_hour generator_hour) (slot_from k h) (generator_hour_from a b d e) 2 refl _ (the-slot (at·returns c).In-ok-resource) _ was) c.enter_generator_hour.ensures in
+    let f = follows_act (post_generator_hour k h a b d e) _ _ _ _ (both_read (brings_hour generator_hour) (slot_from k h) (generator_hour_from a b d e) 2 refl _ (the-slot (goal.at.returns c).In_ok-resource) _ was) c.enter_generator_hour.ensures in
     record { follows = f; law = recorded (post_generator_hour k h a b d e) _ _ _ f o.prices_whole o.hours_whole; again = λ da mw own on. counts generator_hour (post_generator_hour k h da mw own on) (post_generator_hour k h a b d e) k h (generator_hour_from da mw own on) (generator_hour_from a b d e) refl refl generator-twice _ _ _ f }

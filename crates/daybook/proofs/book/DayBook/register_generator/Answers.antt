@@ -11,12 +11,12 @@ use Rattle.daybook.proofs.Followed.{out_of_range_lem, follows_act}
 use Rattle.daybook.proofs.Lawful.{recorded}
 use Rattle.daybook.proofs.Taking.{small, first_out_lem, second_out, both_read, ids_handed}
 use Rattle.daybook.proofs.book.DayBook.register_generator.Goals as goal
-use Rattle.daybook.proofs.book.DayBook.register_generator.Goals.{In-ok-id, at·returns-in_err-generator, at·returns}
+use Rattle.daybook.proofs.book.DayBook.register_generator.Goals.{In_ok-id}
 
 abbrev act : (Id × Id × Id) × Machine → Act
 act x = brings_resource x.0 (Generator x.1)
 
-the-ids : (c : In-ok-id) → Ok (c.in_ok-id.id, c.in_ok-id.member, c.in_ok-id.place) ≡ read (ids_from c.args.id c.args.member c.args.place)
+the-ids : (c : In_ok-id) → Ok (c.in_ok-id.id, c.in_ok-id.member, c.in_ok-id.place) ≡ read (ids_from c.args.id c.args.member c.args.place)
 the-ids c = ids_handed c.args.id c.args.member c.args.place c.ranges.id c.ranges.member c.ranges.place _ c.in_ok-id.ensures
 
 pub returns-in_err-id : goal.returns-in_err-id
@@ -37,7 +37,7 @@ returns-in_err-generator c =
     let y = err_from_is_err_and c.from_residual-in_err-generator.result c.from_residual-in_err-generator.ensures.1 in
     let out = c.in_err-generator.ensures ∙ ap (behind 3) c.register.ensures in
     let b = c.args.self.now in
-    let f = out_of_range_lem (register_generator id m p form) (held b) _ _ _ y.1 y.2 (second_out act (ids_from id m p) (generator_from form) 3 refl _ (the-ids (at·returns-in_err-generator c).In-ok-id) _ out) in
+    let f = out_of_range_lem (register_generator id m p form) (held b) _ _ _ y.1 y.2 (second_out act (ids_from id m p) (generator_from form) 3 refl _ (the-ids (goal.at.returns-in_err-generator c).In_ok-id) _ out) in
     record { follows = f; law = recorded (register_generator id m p form) _ _ _ f b.prices_whole b.hours_whole }
 
 pub returns : goal.returns
@@ -45,5 +45,5 @@ returns c =
     let id = c.args.id in let m = c.args.member in let p = c.args.place in let form = c.args.form.now in
     let was = c.in_ok-generator.ensures ∙ ap (behind 3) c.register.ensures in
     let b = c.args.self.now in
-    let f = follows_act (register_generator id m p form) _ _ _ _ (both_read act (ids_from id m p) (generator_from form) 3 refl _ (the-ids (at·returns c).In-ok-id) _ was) c.enter_resource.ensures in
+    let f = follows_act (register_generator id m p form) _ _ _ _ (both_read act (ids_from id m p) (generator_from form) 3 refl _ (the-ids (goal.at.returns c).In_ok-id) _ was) c.enter_resource.ensures in
     record { follows = f; law = recorded (register_generator id m p form) _ _ _ f b.prices_whole b.hours_whole }

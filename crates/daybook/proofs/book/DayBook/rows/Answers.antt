@@ -1,4 +1,4 @@
-use Rattle.std.proofs.Common.{◌≡◌, ◌≤◌, length, sym, ◌∙◌, subst, arith}
+use Rattle.std.proofs.Common.{◌≤◌, length, sym, ◌∙◌, subst, arith}
 use Rattle.table.specs.Tables.{entries}
 use Rattle.table.proofs.Laws.{never_over}
 use Rattle.figures.specs.Entries.{ids_of_members}
@@ -11,10 +11,10 @@ use Rattle.daybook.proofs.book.DayBook.rows.Goals as goal
 pub returns : goal.returns
 returns c =
     let b = c.args.self.now in
-    let l = c.standing.ensures in
-    let value = c.rows.ensures.value ∙ (λ i. member_rows (l.resources i) (ids_of_members (l.members i))) in
+    let l = c.roll.ensures in
+    let value = c.rows.ensures.value ∙ (λ i. member_rows (l.records.resources i) (ids_of_members (l.members i))) in
     let few : length (entries b.members) ≤ 16 = omega (arith, never_over b.members, b.rooms.0) in
     record {
       value = value;
-      law = subst (Shareable (held b)) (sym value) (shareable (held b) b.members_rise b.owned few (subst RowsOfAll l.resources c.rows.ensures.together));
+      law = subst (Shareable (held b)) (sym value) (shareable (held b) b.members_rise b.owned few (subst RowsOfAll l.records.resources c.rows.ensures.together));
     }

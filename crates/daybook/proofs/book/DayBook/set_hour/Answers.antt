@@ -1,4 +1,4 @@
-use Rattle.std.proofs.Common.{◌≡◌, Some, refl, ap, ◌∙◌}
+use Rattle.std.proofs.Common.{Some, refl, ap, ◌∙◌}
 use Rattle.table.specs.Entries.{replaced}
 use Rattle.table.specs.Tables.{entries}
 use Rattle.figures.specs.Entries.{resource_key, ids_of_members, ids_of_places}

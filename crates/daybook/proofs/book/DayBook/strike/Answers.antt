@@ -1,4 +1,4 @@
-use Rattle.std.proofs.Common.{◌≡◌, ℤ, Result, refl}
+use Rattle.std.proofs.Common.{ℤ, Result, refl}
 use Rattle.std.proofs.lemmas.Result.{err_from_is_err_and}
 use Rattle.refusal.specs.declared.cause.Refusal.{Refusal}
 use Rattle.daybook.specs.Calls.{strike, post_generator_hour, post_load_hour, slot_from, generator_hour_from, load_hour_from, takes}

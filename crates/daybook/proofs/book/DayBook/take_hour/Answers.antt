@@ -1,4 +1,4 @@
-use Rattle.std.proofs.Common.{◌≡◌, is_some, None, sym, refl, ap, ◌∙◌}
+use Rattle.std.proofs.Common.{is_some, None, sym, refl, ap, ◌∙◌}
 use Rattle.std.specs.Option.{option_map}
 use Rattle.refusal.specs.declared.cause.Refusal.TheVariants.{NotRegistered, DraftOut, NothingToStrike}
 use Rattle.refusal.specs.declared.kinds.Kind.TheVariants.{Resource}

@@ -1,8 +1,7 @@
 use Rattle.std.proofs.Common.{◌≡◌, nat_abs, None, Ok, sum_by, sym, ap, ◌∙◌, arith, w64}
 use Rattle.std.proofs.lemmas.Int.{to_z-of_z}
 use Rattle.figures.specs.Figures.{resource_energy, resource_uplift, total_by}
-use Rattle.figures.specs.Pots.{neutrality_pot, uplift_pot}
-use Rattle.figures.specs.Prices.{unless_missing}
+use Rattle.figures.specs.Pots.{neutrality_pot, uplift_pot, unless_missing}
 use Rattle.figures.specs.Standing.{counted}
 use Rattle.figures.proofs.Adding.{amounts, quantities}
 use Rattle.figures.proofs.Exchange.{all_count, exchange}
