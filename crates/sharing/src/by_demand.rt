@@ -49,7 +49,7 @@ impl SharingRule for ByDemand {
     fn share(&self, total: i64, rows: &[MemberRow], shares: &mut [u64]) -> Result<(), Refusal>
         ensures reply { result ≡ answered (admitted total rows.now (length shares.old)) (λ _. tt) }
         ensures after { shares.new ≡ filled (admitted total rows.now (length shares.old)) (λ t. by_demand t rows.now) shares.old }
-        ensures keeps { self.now ≡ self.now }
+        ensures keeps { self.exit.now ≡ self.entry.now }
         ensures law { OnOk result (UpTo (unsigned_abs total) (demands rows.now) shares.new) }
     {
         let total = admit(total, rows, shares.len())?;

@@ -14,7 +14,7 @@ pub trait SharingRule {
     fn share(&self, total: i64, rows: &[MemberRow], shares: &mut [u64]) -> Result<(), Refusal>
         ensures reply { result ≡ answered (admitted total rows.now (length shares.old)) (λ _. tt) }
         ensures after { shares.new ≡ filled (admitted total rows.now (length shares.old)) (λ t. meaning self.now t rows.now) shares.old }
-        ensures keeps { self.now ≡ self.now };
+        ensures keeps { self.exit.now ≡ self.entry.now };
 
     ghost fair: { (s : Self) (t : ℕ) (rows : List MemberRow) → Due t rows → Fair t rows (meaning s t rows) };
 }
@@ -28,7 +28,7 @@ pub fn share_out<R: SharingRule>(
 ) -> Result<(), Refusal>
     ensures reply { result ≡ answered (admitted total rows.now (length shares.old)) (λ _. tt) }
     ensures after { shares.new ≡ filled (admitted total rows.now (length shares.old)) (λ t. R.SharingRule.meaning rule.now t rows.now) shares.old }
-    ensures keeps { rule.now ≡ rule.now }
+    ensures keeps { rule.exit.now ≡ rule.entry.now }
     ensures law { OnOk result (Fair (unsigned_abs total) rows.now (take (length rows.now) shares.new)) }
     ensures nobody { Exactly (result ≡ Err no_demand) (NobodyBears total rows.now (length shares.old)) }
 {
