@@ -1,10 +1,10 @@
 -- What a day book holds.
 --
---   Held   the day; members, places and resources by rising id, and how many of each there is room for; the number of the
---              draft that is out; how many draft numbers are used
---   held                                        what a book holds
---   opened                                      what it holds once it is opened over tables of so many entries
---   with_members, with_places, with_resources   the same with another table
+--   Held           the day; members, places and resources by rising id, and how many of each there is room for; the number
+--                  of the draft that is out; how many draft numbers are used
+--   held           what a book holds
+--   opened         what it holds once it is opened over tables of so many entries
+--   with_members   the same with another table of members; with_places, with_resources
 use Rattle.std.specs.Prelude.{ℕ, min, List, [], None, Option}
 use Rattle.table.specs.Tables.{entries, room}
 use Rattle.figures.specs.declared.standing.Member.{Member}

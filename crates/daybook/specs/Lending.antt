@@ -1,6 +1,6 @@
 -- What a book lends to be added up.
 --
---   Lends   its places and resources are those that a book holds
+--   Lends       its places and resources are those that a book holds
 --   CallsRoll   its members, too
 use Rattle.std.specs.Prelude.{◌≡◌}
 use Rattle.figures.specs.declared.rows.Roll.{Roll}

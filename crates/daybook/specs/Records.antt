@@ -1,7 +1,7 @@
 -- What stands in a day book, and the name that it is known by.
 --
---   Record   a member, a place, a resource, a price of a place in an hour, a generator's or a load's hour record
---   Name     what tells one record from another: the id of what is registered, the place and hour of a price, the resource
+--   Record     a member, a place, a resource, a price of a place in an hour, a generator's or a load's hour record
+--   Name       what tells one record from another: the id of what is registered, the place and hour of a price, the resource
 --              and hour of an hour record
 --   name_of    the name of a record
 --   standing   the record that stands in a book under a name

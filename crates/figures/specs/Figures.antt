@@ -1,11 +1,11 @@
 -- What the records of a resource and of a member come to: cents of energy and uplift, kWh of demand and deviation.
 --
---   resource_energy                                                 the energy lines of a resource at the prices of its place
---   resource_uplift                                                 the uplift of a generator at the prices of its place; a load has none
---   resource_demand, resource_deviation                             what its hour records add to demand and to deviation
---   total_by                                                        a sum of amounts over a list; the sum of quantities is sumBy
---   member_energy, member_uplift, member_demand, member_deviation   the same over the resources of a member
---   member_row                                                      what a sharing rule is told of a member
+--   resource_energy   the energy lines of a resource at the prices of its place
+--   resource_uplift   the uplift of a generator at the prices of its place; a load has none
+--   resource_demand   what its hour records add to demand; resource_deviation to deviation
+--   total_by          a sum of amounts over a list; the sum of quantities is sum_by
+--   member_energy     the same over the resources of a member; member_uplift, member_demand, member_deviation
+--   member_row        what a sharing rule is told of a member
 use Rattle.std.specs.Prelude.{ℕ, List, ℤ, pos, ◌+ℤ◌, fold, sum_by, Option}
 use Rattle.hours.specs.declared.records.HourRecord.{HourRecord}
 use Rattle.hours.specs.declared.records.Price.{Price}

@@ -1,8 +1,8 @@
 -- That what resources name is there.
 --
---   all_named    what every resource names is one of these ids
---   all_members  its member
---   all_placed   its place
+--   all_named     what every resource names is one of these ids
+--   all_members   its member
+--   all_placed    its place
 use Rattle.std.specs.Prelude.{ℕ, Bool, true, ◌&&◌, List, [], ◌∷◌}
 use Rattle.figures.specs.declared.standing.Resource.{Resource}
 use Rattle.figures.specs.Owners.{among}

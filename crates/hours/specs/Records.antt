@@ -69,13 +69,13 @@ price_fields da rt =
     ∷ field rt (neg_ℤ (pos 200000)) (pos 200000)
     ∷ []
 
-pub price-bounds : (da rt : ℤ) → all_fit (price_fields da rt) ≡ true → PriceBounds da rt
-price-bounds da rt h =
+pub price_bounds : (da rt : ℤ) → all_fit (price_fields da rt) ≡ true → PriceBounds da rt
+price_bounds da rt h =
     let k = all_in (price_fields da rt) h in
     (omega (arith, ints), omega (arith, ints))
 
 abbrev pub price_made : (da rt : ℤ) → all_fit (price_fields da rt) ≡ true → Price
-price_made da rt h = record { day_ahead = da; real_time = rt; bounds = price-bounds da rt h }
+price_made da rt h = record { day_ahead = da; real_time = rt; bounds = price_bounds da rt h }
 
 abbrev pub price_of : ℤ → ℤ → Result Price OutOfRange
 price_of da rt = made (price_fields da rt) (price_made da rt)

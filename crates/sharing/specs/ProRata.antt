@@ -4,7 +4,7 @@
 --   part       one member's share: its quotient less the quotient of the members before it
 --   pro_rata   every member's share; pro_rata_from the same of some members and those behind them
 --   UpTo       the shares up to and with a member add up to total × (weight up to and with it) ÷ W, fraction dropped,
---                 W being the weight of all
+--              W being the weight of all
 --
 -- Here x / 0 is 0, so where nobody has weight all shares are zero.
 use Rattle.std.specs.Prelude.{◌≡◌, ℕ, ◌+◌, ◌-◌, ◌*◌, ◌/◌, ◌≤◌, List, [], ◌∷◌, length, take, sum}

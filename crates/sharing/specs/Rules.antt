@@ -1,9 +1,9 @@
 -- Our sharing rules. Each makes one share for each row, in the order of the rows.
 --
---   by_demand   a total of zero gives zeros, any other is shared by demand
---   both        two lists as one, place by place, as far as the shorter goes
---   cap         the most that a member bears in a tier: deviation × rate ÷ 1,000, fraction dropped; a rate above 200,000
---                counts as 200,000
+--   by_demand     a total of zero gives zeros, any other is shared by demand
+--   both          two lists as one, place by place, as far as the shorter goes
+--   cap           the most that a member bears in a tier: deviation × rate ÷ 1,000, fraction dropped; a rate above 200,000
+--                 counts as 200,000
 --   caps          every member's cap
 --   own_amounts   what each member bears in a tier: the lesser of its share by deviation and its cap
 --   capped        a tier over another rule: each member's own amount, and its share of the rest by the rule below
