@@ -4,8 +4,8 @@
 usage: python3 tools/respell.py    at the top of a tree that the toolchain's own script has turned
 
 tools/respell.tsv has a line for each name: as it was, as it is, and what it is. Functions of src/, strings, inputs and
-outputs keep their names. It also lines up the lists of words that open a file of specs/. Run it once: a lemma of the day book takes the name of a
-definition with _lem, and a second run would rename that definition too.
+outputs keep their names. It also lines up the lists of words that open a file of specs/. Run it once: a lemma of the day
+book takes the name of a definition with _lem, and a second run would rename that definition too.
 """
 
 import glob
