@@ -3,7 +3,7 @@ use Rattle.std.proofs.Common.{◌≡◌, ℕ, ◌+◌, ◌<◌, ◌≤◌, Bool,
 use Rattle.std.specs.Option.{option_to_list}
 use Rattle.std.proofs.lemmas.List.{take_more_set, take_all, take-append-le, length-take, at_drop_more, at_drop_all}
 use Rattle.commitment.specs.declared.stretch.Stretch.{Stretch}
-use Rattle.commitment.specs.Stretches.{added, ended, going, stretches_from, stretches, covers}
+use Rattle.commitment.specs.Stretches.{added, ended, going, stretches_from, stretches}
 
 -- adding, where there is room and where there is none
 pub add_none : (items : List Stretch) (n : ℕ) (p : Option Stretch) → n ≤ 24 → length items ≡ 24 → p ≡ None → take n items ≡ added (take n items) p
@@ -36,44 +36,29 @@ ends_one h None false = omega arith
 ends_one h (Some f) true = omega arith
 ends_one h (Some f) false = omega arith
 
--- the scan before hour i + 1: the stretches found, and those to come
-abbrev pub Scanned : List Bool → List Stretch → Option ℕ → ℕ → Type 0
-Scanned marks found began i =
-    (found ++ stretches_from (i + 1) began (drop i marks) ≡ stretches marks) × (length found + length (option_to_list began) ≤ i)
+-- the scan before an hour: the stretches found, and those to come of the marks that are left
+abbrev pub Scanned : List Bool → List Stretch → Option ℕ → ℕ → List Bool → Type 0
+Scanned marks found began hour rest =
+    (found ++ stretches_from hour began rest ≡ stretches marks) × (length found + length (option_to_list began) < hour) × (hour + length rest ≡ 25)
 
-pub scan_more : (marks : List Bool) (found found' : List Stretch) (began began' : Option ℕ) (i : ℕ) (e : Option Stretch)
-    → i < length marks → length marks ≡ 24
-    → e ≡ ended (i + 1) began (get_or marks i false) → found' ≡ added found e → began' ≡ going (i + 1) began (get_or marks i false)
-    → Scanned marks found began i → Scanned marks found' began' (i + 1)
-scan_more marks found found' began began' i e h all is f b inv =
-    let marked = get_or marks i false in
-    let few = ends_one (i + 1) began marked in
-    let next = ends_or_goes (i + 1) began marked in
+pub scan_more : (marks : List Bool) (found found' : List Stretch) (began began' : Option ℕ) (hour next : ℕ) (marked : Bool) (now rest : List Bool) (e : Option Stretch)
+    → now ≡ marked ∷ rest → next ≡ hour + 1 → e ≡ ended hour began marked → found' ≡ added found e → began' ≡ going hour began marked
+    → Scanned marks found began hour now → Scanned marks found' began' next rest
+scan_more marks found found' began began' hour next marked now rest e m n is f b inv =
+    let few = ends_one hour began marked in
+    let later = ends_or_goes hour began marked in
     let one = ap (λ o. length (option_to_list o)) is in
-    let now : found' ≡ found ++ option_to_list e = f ∙ added-all found e (omega arith) in
-    let step : stretches_from (i + 1) began (drop i marks) ≡ option_to_list (ended (i + 1) began marked) ++ stretches_from (i + 1 + 1) (going (i + 1) began marked) (drop (i + 1) marks) = at_drop_more (stretches_from (i + 1) began) marks i false h in
-    let assoc = append_assoc found (option_to_list e) (stretches_from (i + 1 + 1) began' (drop (i + 1) marks)) in
-    (cc, simp (now, b, length-append) (omega arith))
+    let left = ap length m in
+    let more : found' ≡ found ++ option_to_list e = f ∙ added-all found e (omega arith) in
+    let assoc = append_assoc found (option_to_list e) (stretches_from next began' rest) in
+    (cc, simp (more, b, length-append) (omega arith), omega arith)
 
-pub scan_end : (marks : List Bool) (found found' : List Stretch) (began : Option ℕ) (i : ℕ) (e : Option Stretch) → length marks ≡ 24 → i ≡ 24
-    → e ≡ ended 25 began false → found' ≡ added found e → Scanned marks found began i → found' ≡ stretches marks
-scan_end marks found found' began i e all at is f inv =
+pub scan_end : (marks : List Bool) (found found' : List Stretch) (began : Option ℕ) (hour : ℕ) (rest : List Bool) (e : Option Stretch)
+    → rest ≡ [] → e ≡ ended 25 began false → found' ≡ added found e → Scanned marks found began hour rest → found' ≡ stretches marks
+scan_end marks found found' began hour rest e m is f inv =
     let few = ends_one 25 began false in
     let one = ap (λ o. length (option_to_list o)) is in
-    let now : found' ≡ found ++ option_to_list e = f ∙ added-all found e (omega arith) in
-    let step : stretches_from (i + 1) began (drop i marks) ≡ option_to_list (ended (i + 1) began false) = at_drop_all (stretches_from (i + 1) began) marks i (omega arith) in
-    let hour : i + 1 ≡ 25 = omega arith in
+    let left = ap length m in
+    let at : hour ≡ 25 = omega arith in
+    let more : found' ≡ found ++ option_to_list e = f ∙ added-all found e (omega arith) in
     cc
-
--- the search for a stretch that has the hour
-pub covers_step : (ps : List Stretch) (i : ℕ) (d : Stretch) (hour : ℕ) → i < length ps
-    → (leb (get_or ps i d).first hour && leb hour (get_or ps i d).last) ≡ false → covers (drop i ps) hour ≡ covers ps hour → covers (drop (i + 1) ps) hour ≡ covers ps hour
-covers_step ps i d hour h out inv =
-    ap (λ b. b || covers (drop (i + 1) ps) hour) (sym out) ∙ sym (at_drop_more (λ qs. covers qs hour) ps i d h) ∙ inv
-
-pub covers-found : (ps : List Stretch) (i : ℕ) (d : Stretch) (hour : ℕ) → i < length ps
-    → (leb (get_or ps i d).first hour && leb hour (get_or ps i d).last) ≡ true → covers (drop i ps) hour ≡ covers ps hour → covers ps hour ≡ true
-covers-found ps i d hour h has inv = sym inv ∙ at_drop_more (λ qs. covers qs hour) ps i d h ∙ ap (λ b. b || covers (drop (i + 1) ps) hour) has
-
-pub covers_end : (ps : List Stretch) (i hour : ℕ) → length ps ≤ i → covers (drop i ps) hour ≡ covers ps hour → covers ps hour ≡ false
-covers_end ps i hour h inv = sym inv ∙ at_drop_all (λ qs. covers qs hour) ps i h

@@ -1,7 +1,7 @@
 -- The loops of a day, turn by turn.
 use Rattle.std.proofs.Common.{◌≡◌, ℕ, suc, ◌+◌, ◌-◌, ◌<◌, ◌≤◌, Bool, true, false, cond, List, [], ◌∷◌, ◌++◌, map, length, get_or, take, drop, set, Some, None, Option, sym, refl, ap, ◌∙◌, append_assoc, append-nil, arith, length-append}
 use Rattle.std.specs.Option.{option_to_list}
-use Rattle.std.proofs.lemmas.List.{take_more_set, take_all, at_drop_more, at_drop_all}
+use Rattle.std.proofs.lemmas.List.{take_more_set, take_all, drop-set-lt, at_drop_more, at_drop_all}
 use Rattle.commitment.specs.declared.gaps.Choice.TheVariants.{Number}
 use Rattle.commitment.specs.declared.gaps.Gap.{Gap}
 use Rattle.commitment.specs.declared.stretch.Stretch.{Stretch}
@@ -25,10 +25,14 @@ write_end out i now goal k e inv =
 pub map_now : {X Y : Type 0} (f : X → Y) (xs : List X) (i : ℕ) (d : X) (y : Y) → i < length xs → y ≡ f (get_or xs i d) → map f (drop i xs) ≡ y ∷ map f (drop (i + 1) xs)
 map_now f xs i d y h e = at_drop_more (map f) xs i d h ∙ ap (λ z. z ∷ map f (drop (i + 1) xs)) (sym e)
 
-pub held_now : (mrt ran next i : ℕ) (flags : List Bool) (on : Bool) → i < length flags → on ≡ stays mrt ran (get_or flags i false) → next ≡ cond on (ran + 1) 0
-    → held_from mrt ran (drop i flags) ≡ on ∷ held_from mrt next (drop (i + 1) flags)
-held_now mrt ran next i flags on h e n =
-    let d : held_from mrt ran (drop i flags) ≡ stays mrt ran (get_or flags i false) ∷ held_from mrt (cond (stays mrt ran (get_or flags i false)) (ran + 1) 0) (drop (i + 1) flags) = at_drop_more (held_from mrt ran) flags i false h in
+-- an hour of the day becomes whether it is held
+pub held_more : (mrt ran next i : ℕ) (hours : List Bool) (on : Bool) → i < length hours → on ≡ stays mrt ran (get_or hours i false) → next ≡ cond on (ran + 1) 0
+    → take (i + 1) (set hours i on) ++ held_from mrt next (drop (i + 1) (set hours i on)) ≡ take i hours ++ held_from mrt ran (drop i hours)
+held_more mrt ran next i hours on h e n =
+    let now : held_from mrt ran (drop i hours) ≡ stays mrt ran (get_or hours i false) ∷ held_from mrt (cond (stays mrt ran (get_or hours i false)) (ran + 1) 0) (drop (i + 1) hours) = at_drop_more (held_from mrt ran) hours i false h in
+    let front = take_more_set hours i on h in
+    let back = drop-set-lt (i + 1) hours i on (omega arith) in
+    let assoc = append_assoc (take i hours) (on ∷ []) (held_from mrt next (drop (i + 1) hours)) in
     cc
 
 pub one_longer : (on : Bool) (ran i next : ℕ) → next ≡ cond on (ran + 1) 0 → ran ≤ i → next ≤ i + 1

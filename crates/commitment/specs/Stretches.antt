@@ -10,6 +10,7 @@
 --   hours            how many hours a stretch has
 --   gap, gaps        the hours between a stretch and the next; between each and its next
 use Rattle.std.specs.Prelude.{ℕ, ◌+◌, ◌-◌, Bool, false, cond, ◌&&◌, ◌||◌, List, [], ◌∷◌, ◌++◌, take, Some, None, Option, nat_le}
+use Rattle.std.specs.List.{list_any}
 use Rattle.std.specs.Option.{option_to_list}
 use Rattle.commitment.specs.declared.stretch.Stretch.{Stretch}
 use Rattle.commitment.specs.declared.stretch.Stretches.{Stretches}
@@ -37,8 +38,7 @@ abbrev pub stretches : List Bool → List Stretch
 stretches marks = stretches_from 1 None marks
 
 abbrev pub covers : List Stretch → ℕ → Bool
-covers [] h = false
-covers (p ∷ ps) h = (nat_le p.first h && nat_le h p.last) || covers ps h
+covers ps h = list_any (λ p. nat_le p.first h && nat_le h p.last) ps
 
 abbrev pub hours : Stretch → ℕ
 hours p = p.last + 1 - p.first

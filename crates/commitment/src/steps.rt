@@ -24,14 +24,14 @@ fn ran_on(on: bool, ran: u8) -> u8
 fn held(flags: &[bool; 24], mrt: u8) -> [bool; 24]
     ensures { result ≡ held mrt flags.now }
 {
-    let mut out = [false; 24];
-    let mut ran: u8 = 0;
-    for i in 0..24 {
-        let on = stays_on(mrt, ran, flags[i]);
-        out[i] = on;
+    let mut hours = *flags;
+    let mut ran = 0;
+    for hour in hours.iter_mut() {
+        let on = stays_on(mrt, ran, *hour);
+        *hour = on;
         ran = ran_on(on, ran);
     }
-    out
+    hours
 }
 
 impl Choice {

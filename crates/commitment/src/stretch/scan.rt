@@ -9,7 +9,7 @@ impl Stretch {
     pub fn has(&self, hour: u8) -> bool
         ensures { result ≡ (nat_le self.now.first hour && nat_le hour self.now.last) }
     {
-        self.first <= hour && hour <= self.last
+        (self.first..=self.last).contains(&hour)
     }
 }
 
@@ -46,47 +46,29 @@ impl Stretches {
         ensures value { result.now ≡ listed self.now }
         ensures few { length result.now ≤ 24 }
     {
-        &self.items[0..self.count]
+        &self.items[..self.count]
     }
 
     pub fn cover(&self, hour: u8) -> bool
         ensures { result ≡ covers (listed self.now) hour }
     {
-        any_has(self.as_slice(), hour)
+        self.as_slice().iter().any(|stretch| stretch.has(hour))
     }
-}
-
-fn any_has(stretches: &[Stretch], hour: u8) -> bool
-    ensures { result ≡ covers stretches.now hour }
-{
-    for i in 0..stretches.len() {
-        if stretches[i].has(hour) {
-            return true;
-        }
-    }
-    false
 }
 
 fn ended_at(hour: u8, began: Option<u8>, marked: bool) -> Option<Stretch>
     ensures { result ≡ ended hour began marked }
 {
-    match began {
-        Some(first) if !marked => Some(Stretch {
-            first,
-            last: hour.saturating_sub(1),
-        }),
-        _ => None,
-    }
+    began.filter(|_| !marked).map(|first| Stretch {
+        first,
+        last: hour.saturating_sub(1),
+    })
 }
 
 fn going_at(hour: u8, began: Option<u8>, marked: bool) -> Option<u8>
     ensures { result ≡ going hour began marked }
 {
-    match began {
-        _ if !marked => None,
-        Some(first) => Some(first),
-        None => Some(hour),
-    }
+    marked.then_some(began.unwrap_or(hour))
 }
 
 impl Stretches {
@@ -97,10 +79,9 @@ impl Stretches {
     {
         let mut found = Stretches::none();
         let mut began = None;
-        for i in 0..24 {
-            let hour = i as u8 + 1;
-            found.add(ended_at(hour, began, marks[i]));
-            began = going_at(hour, began, marks[i]);
+        for (hour, marked) in (1..).zip(marks) {
+            found.add(ended_at(hour, began, *marked));
+            began = going_at(hour, began, *marked);
         }
         found.add(ended_at(25, began, false));
         found
