@@ -2,10 +2,9 @@
 use Rattle.std.proofs.Common.{◌≡◌, ℕ, ◌+◌, ◌<◌, ◌≤◌, Bool, true, ltb, ◌⊎◌, List, [], ◌∷◌, inl, inr, ⊎_elim, arith}
 use Rattle.std.specs.List.{AllByRecursion}
 use Rattle.std.proofs.lemmas.Bool.{cases_lt, cond_both, ltb-true, ltb-false}
-use Rattle.commitment.specs.declared.gaps.Choice.TheVariants.{FewerThan}
 use Rattle.commitment.specs.declared.stretch.Stretch.{Stretch}
 use Rattle.commitment.specs.Stretches.{gap, gaps, gaps_after}
-use Rattle.commitment.specs.Commitment.{join, fill_from, fill, chosen_by, bridged}
+use Rattle.commitment.specs.Commitment.{join, fill_from, fill, bridged}
 use Rattle.commitment.specs.StretchLaws.{Within, In}
 use Rattle.commitment.specs.CommitmentLaws.{Between, BetweenAfter}
 use Rattle.commitment.proofs.Holding.{Rising}
@@ -103,12 +102,12 @@ module _ (Size : ℕ → Type 0) (h : ℕ) where
 -- step 2 fills gaps of fewer than mdt hours, and leaves none of them
 module _ (mdt : ℕ) where
   pub bridged-fills : (ps : List Stretch) → Fills (λ g. g < mdt) ps (bridged mdt ps)
-  bridged-fills = fill-fills (λ g. g < mdt) (chosen_by (FewerThan mdt)) (λ i g. ltb-true g mdt)
+  bridged-fills = fill-fills (λ g. g < mdt) (λ i g. ltb g mdt) (λ i g. ltb-true g mdt)
 
-  fill_from-apart : (i : ℕ) (p : Stretch) (qs : List Stretch) → AllByRecursion (λ g. mdt ≤ g) (gaps (fill_from (chosen_by (FewerThan mdt)) i p qs))
+  fill_from-apart : (i : ℕ) (p : Stretch) (qs : List Stretch) → AllByRecursion (λ g. mdt ≤ g) (gaps (fill_from (λ i g. ltb g mdt) i p qs))
   fill_from-apart i p [] = tt
   fill_from-apart i p (q ∷ qs) =
-      let fs = fill_from-fills AnySize (chosen_by (FewerThan mdt)) (λ _ _ _. tt) (i + 1) q qs in
+      let fs = fill_from-fills AnySize (λ i g. ltb g mdt) (λ _ _ _. tt) (i + 1) q qs in
       cond_both (ltb (gap p q) mdt) _ _ (λ rs. AllByRecursion (λ g. mdt ≤ g) (gaps rs))
       (λ _. fill_from-apart (i + 1) (join p q) qs)
       (λ e. gaps-after fs p (λ g. mdt ≤ g) (ltb-false _ _ e) (fill_from-apart (i + 1) q qs))

@@ -1,12 +1,11 @@
 -- Step 3: each join is of the two periods with the smallest gap, the earliest on a tie, and joins are made while there are too many periods.
-use Rattle.std.proofs.Common.{◌≡◌, ℕ, zero, suc, ◌+◌, ◌-◌, ◌<◌, ◌≤◌, ltb, ◌⊎◌, List, [], ◌∷◌, ◌++◌, length, Some, sym, refl, ap, ◌∙◌, subst, inl, inr, arith, length-append}
+use Rattle.std.proofs.Common.{◌≡◌, ℕ, zero, suc, ◌+◌, ◌-◌, ◌<◌, ◌≤◌, ltb, eqb, ◌⊎◌, List, [], ◌∷◌, ◌++◌, length, Some, sym, refl, ap, ◌∙◌, subst, inl, inr, arith, length-append}
 use Rattle.std.specs.List.{AllByRecursion}
 use Rattle.std.proofs.lemmas.Bool.{cond_both, ltb-true, ltb-false, eq-eqb, ne_eqb}
-use Rattle.commitment.specs.declared.gaps.Choice.TheVariants.{Number}
 use Rattle.commitment.specs.declared.gaps.Gap.{Gap}
 use Rattle.commitment.specs.declared.stretch.Stretch.{Stretch}
 use Rattle.commitment.specs.Stretches.{gap, gaps, gaps_after}
-use Rattle.commitment.specs.Commitment.{join, fill_from, fill, chosen_by, smallest_from, joined, joined_at, joins}
+use Rattle.commitment.specs.Commitment.{join, fill_from, fill, smallest_from, joined, joined_at, joins}
 use Rattle.commitment.specs.StretchLaws.{In}
 use Rattle.commitment.specs.CommitmentLaws.{Joined, JoinedDown, few_enough, too_many}
 use Rattle.commitment.proofs.Holding.{Rising}
@@ -36,7 +35,7 @@ smallest_best (x ∷ xs) i f =
     (λ e. let (g, same, b) = smallest_best xs (i + 1) f in (g, same, best_kept g f i x xs (ltb-false x f.hours e) b))
 
 -- the gap at that position is filled, and no other
-fill-past : (at i : ℕ) (p : Stretch) (qs : List Stretch) → at < i → fill_from (chosen_by (Number at)) i p qs ≡ p ∷ qs
+fill-past : (at i : ℕ) (p : Stretch) (qs : List Stretch) → at < i → fill_from (λ i h. eqb i at) i p qs ≡ p ∷ qs
 fill-past at i p [] l = refl
 fill-past at i p (q ∷ qs) l = rw (ne_eqb i at (λ e. omega arith)) (ap (λ rs. p ∷ rs) (fill-past at (i + 1) q qs (omega arith)))
 
@@ -78,14 +77,14 @@ join_later n p q qs rs large (j, over) = (
   over,
 )
 
-least_join : (g : Gap) (qs : List Stretch) (i : ℕ) (p : Stretch) → Least g i (gaps_after p qs) → JoinedOver g.hours (p ∷ qs) (fill_from (chosen_by (Number g.at)) i p qs)
+least_join : (g : Gap) (qs : List Stretch) (i : ℕ) (p : Stretch) → Least g i (gaps_after p qs) → JoinedOver g.hours (p ∷ qs) (fill_from (λ i h. eqb i g.at) i p qs)
 least_join g [] i p l = absurd l
 least_join g (q ∷ qs) i p (inl now) =
     rw (eq-eqb i g.at (sym now.0)) (join_now g.hours p q qs _ now.1 now.2 (fill-past g.at (i + 1) (join p q) qs (omega arith)))
 least_join g (q ∷ qs) i p (inr later) =
     rw (ne_eqb i g.at (λ e. omega arith)) (join_later g.hours p q qs _ later.1 (least_join g qs (i + 1) q later.2))
 
-joined-fill : (p q : Stretch) (qs : List Stretch) → (g : Gap) × (joined (p ∷ (q ∷ qs)) ≡ fill (chosen_by (Number g.at)) (p ∷ (q ∷ qs))) × Least g 0 (gaps (p ∷ (q ∷ qs)))
+joined-fill : (p q : Stretch) (qs : List Stretch) → (g : Gap) × (joined (p ∷ (q ∷ qs)) ≡ fill (λ i h. eqb i g.at) (p ∷ (q ∷ qs))) × Least g 0 (gaps (p ∷ (q ∷ qs)))
 joined-fill p q qs = let (g, same, least) = smallest_best (gaps_after q qs) 1 (record { at = 0; hours = gap p q }) in
     (g, ap (λ o. joined_at o (p ∷ (q ∷ qs))) same, least)
 
@@ -118,7 +117,7 @@ joined-fills : (ps : List Stretch) → Fills AnySize ps (joined ps)
 joined-fills [] = empty
 joined-fills (p ∷ []) = single
 joined-fills (p ∷ (q ∷ qs)) = let (g, same, least) = joined-fill p q qs in
-    subst (Fills AnySize (p ∷ (q ∷ qs))) (sym same) (fill-fills AnySize (chosen_by (Number g.at)) (λ _ _ _. tt) (p ∷ (q ∷ qs)))
+    subst (Fills AnySize (p ∷ (q ∷ qs))) (sym same) (fill-fills AnySize (λ i h. eqb i g.at) (λ _ _ _. tt) (p ∷ (q ∷ qs)))
 
 pub joins_in : (n low : ℕ) (ps : List Stretch) → Rising low ps → (h : ℕ) → In ps h → In (joins n ps) h
 joins_in zero low ps r h i = i

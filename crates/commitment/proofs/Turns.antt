@@ -1,12 +1,11 @@
 -- The loops of a day, turn by turn.
-use Rattle.std.proofs.Common.{◌≡◌, ℕ, suc, ◌+◌, ◌-◌, ◌<◌, ◌≤◌, Bool, true, false, cond, List, [], ◌∷◌, ◌++◌, map, length, get_or, take, drop, set, Some, None, Option, sym, refl, ap, ◌∙◌, append_assoc, append-nil, arith, length-append}
+use Rattle.std.proofs.Common.{◌≡◌, ℕ, suc, ◌+◌, ◌-◌, ◌<◌, ◌≤◌, Bool, true, false, cond, eqb, List, [], ◌∷◌, ◌++◌, map, length, get_or, take, drop, set, Some, None, Option, sym, refl, ap, ◌∙◌, append_assoc, append-nil, arith, length-append}
 use Rattle.std.specs.Option.{option_to_list}
 use Rattle.std.proofs.lemmas.List.{take_more_set, take_all, drop-set-lt, at_drop_more, at_drop_all}
-use Rattle.commitment.specs.declared.gaps.Choice.TheVariants.{Number}
 use Rattle.commitment.specs.declared.gaps.Gap.{Gap}
 use Rattle.commitment.specs.declared.stretch.Stretch.{Stretch}
 use Rattle.commitment.specs.Stretches.{added, gap, gaps_after, gaps}
-use Rattle.commitment.specs.Commitment.{stays, held_from, join, fill_from, fill, chosen_by, smaller, smallest_from, smallest, joined_at, joined, joins}
+use Rattle.commitment.specs.Commitment.{stays, held_from, join, fill_from, fill, smaller, smallest_from, smallest, joined_at, joined, joins}
 use Rattle.commitment.proofs.Scans.{added-all}
 
 -- a loop that writes a list from the front: what is to come is x and then rest, and x is written
@@ -39,10 +38,7 @@ pub one_longer : (on : Bool) (ran i next : ℕ) → next ≡ cond on (ran + 1) 0
 one_longer true ran i next e h = omega arith
 one_longer false ran i next e h = omega arith
 
--- the filling of gaps before period i: those left behind, then the one at hand and those to come
-abbrev pub Filling : (ℕ → ℕ → Bool) → List Stretch → List Stretch → Stretch → ℕ → Type 0
-Filling chosen ps out p i = (out ++ fill_from chosen (i - 1) p (drop i ps) ≡ fill chosen ps) × (length out < i) × (i ≤ length ps)
-
+-- one more period, by whether the gap behind the one at hand is filled
 fill-turn : (chosen : ℕ → ℕ → Bool) (i : ℕ) (p q : Stretch) (qs : List Stretch) (t : Bool) → t ≡ chosen i (gap p q)
     → fill_from chosen i p (q ∷ qs) ≡ option_to_list (cond t None (Some p)) ++ fill_from chosen (i + 1) (cond t (join p q) q) qs
 fill-turn chosen i p q qs t e = ap (λ b. cond b (fill_from chosen (i + 1) (join p q) qs) (p ∷ fill_from chosen (i + 1) q qs)) (sym e) ∙ split t
@@ -55,24 +51,27 @@ at_most_one : {X : Type 0} (o : Option X) → length (option_to_list o) ≤ 1
 at_most_one (Some x) = omega arith
 at_most_one None = omega arith
 
-module _ (chosen : ℕ → ℕ → Bool) (ps out out' : List Stretch) (p d : Stretch) (i : ℕ) (few : length ps ≤ 24) (inv : Filling chosen ps out p i) where
-  pub fill_more : (t : Bool) (o : Option Stretch) (p' : Stretch) → 1 ≤ i → i < length ps
-      → t ≡ chosen (i - 1) (gap p (get_or ps i d)) → o ≡ cond t None (Some p) → out' ≡ added out o
-      → p' ≡ cond t (join p (get_or ps i d)) (get_or ps i d) → Filling chosen ps out' p' (i + 1)
-  fill_more t o p' low h test is f at =
-      let one = at_most_one o in
-      let now : out' ≡ out ++ option_to_list o = f ∙ added-all out o (omega arith) in
-      let turn = at_drop_more (fill_from chosen (i - 1) p) ps i d h ∙ fill-turn chosen (i - 1) p (get_or ps i d) (drop (i + 1) ps) t test in
-      let place : i - 1 + 1 ≡ i + 1 - 1 = omega arith in
-      let assoc = append_assoc out (option_to_list o) (fill_from chosen (i + 1 - 1) p' (drop (i + 1) ps)) in
-      (cc, simp (now, length-append) (omega arith), omega arith)
+module _ (out out' : List Stretch) (o : Option Stretch) (few : length out < 24) (f : out' ≡ added out o) where
+  added-one : out' ≡ out ++ option_to_list o
+  added-one = let one = at_most_one o in f ∙ added-all out o (omega arith)
 
-  pub fill_end : (o : Option Stretch) → length ps ≤ i → o ≡ Some p → out' ≡ added out o → out' ≡ fill chosen ps
-  fill_end o h is f =
-      let one = at_most_one o in
-      let now : out' ≡ out ++ option_to_list o = f ∙ added-all out o (omega arith) in
-      let last : fill_from chosen (i - 1) p (drop i ps) ≡ p ∷ [] = at_drop_all (fill_from chosen (i - 1) p) ps i h in
-      cc
+  pub added_few : length out' ≤ length out + 1
+  added_few = let one = at_most_one o in simp (added-one, length-append) (omega arith)
+
+  module _ (chosen : ℕ → ℕ → Bool) (rest : List Stretch) (i : ℕ) (p : Stretch) where
+    pub fill_more : (t : Bool) (p' d : Stretch) → i < length rest → t ≡ chosen i (gap p (get_or rest i d)) → o ≡ cond t None (Some p) → p' ≡ cond t (join p (get_or rest i d)) (get_or rest i d)
+        → out' ++ fill_from chosen (i + 1) p' (drop (i + 1) rest) ≡ out ++ fill_from chosen i p (drop i rest)
+    fill_more t p' d h test is at =
+        let now = added-one in
+        let turn = at_drop_more (fill_from chosen i p) rest i d h ∙ fill-turn chosen i p (get_or rest i d) (drop (i + 1) rest) t test in
+        let assoc = append_assoc out (option_to_list o) (fill_from chosen (i + 1) p' (drop (i + 1) rest)) in
+        cc
+
+    pub fill_end : length rest ≤ i → o ≡ Some p → out' ≡ out ++ fill_from chosen i p (drop i rest)
+    fill_end h is =
+        let now = added-one in
+        let last : fill_from chosen i p (drop i rest) ≡ p ∷ [] = at_drop_all (fill_from chosen i p) rest i h in
+        cc
 
 -- the search for the smallest gap before period i
 abbrev pub Sought : List Stretch → Option Gap → Stretch → ℕ → Type 0
@@ -87,10 +86,6 @@ sought_more ps least least' p d i low h e inv =
 
 pub sought_end : (ps : List Stretch) (least : Option Gap) (p : Stretch) (i : ℕ) → length ps ≤ i → Sought ps least p i → least ≡ smallest (gaps ps)
 sought_end ps least p i h inv = sym (at_drop_all (λ qs. smallest_from (i - 1) least (gaps_after p qs)) ps i h) ∙ inv
-
-pub join-at : (ps ps' ps'' rs : List Stretch) (g : Gap) → ps' ≡ ps → ps'' ≡ ps → Some g ≡ smallest (gaps ps') → rs ≡ fill (chosen_by (Number g.at)) ps'' → rs ≡ joined ps
-join-at ps ps' ps'' rs g e f s r =
-    r ∙ ap (fill (chosen_by (Number g.at))) f ∙ ap (λ o. joined_at o ps) (s ∙ ap (λ qs. smallest (gaps qs)) e)
 
 pub joins_step : (n k : ℕ) (ps next goal : List Stretch) → k < n → next ≡ joined ps → joins (n - k) ps ≡ goal → joins (n - (k + 1)) next ≡ goal
 joins_step n k ps next goal h e inv =

@@ -10,9 +10,7 @@
 --   joined     the two periods with that gap are joined
 --   limit_of   how many periods may remain
 --   periods    all three steps in order
-use Rattle.std.specs.Prelude.{ℕ, zero, suc, ◌+◌, ◌-◌, Bool, cond, ◌&&◌, ◌||◌, List, [], ◌∷◌, length, Some, None, Option, ◌==◌, nat_lt}
-use Rattle.commitment.specs.declared.gaps.Choice.{Choice}
-use Rattle.commitment.specs.declared.gaps.Choice.TheVariants.{FewerThan, Number}
+use Rattle.std.specs.Prelude.{ℕ, zero, suc, ◌≡◌, ◌+◌, ◌-◌, ◌<◌, Bool, cond, ◌&&◌, ◌||◌, List, [], ◌∷◌, length, Some, None, Option, ◌==◌, nat_lt}
 use Rattle.commitment.specs.declared.gaps.Gap.{Gap}
 use Rattle.commitment.specs.declared.stretch.Stretch.{Stretch}
 use Rattle.commitment.specs.Stretches.{stretches, covers, gap, gaps}
@@ -41,13 +39,12 @@ abbrev pub fill : (ℕ → ℕ → Bool) → List Stretch → List Stretch
 fill chosen [] = []
 fill chosen (p ∷ ps) = fill_from chosen 0 p ps
 
--- which gaps are filled, by their position and their hours
-abbrev pub chosen_by : Choice → ℕ → ℕ → Bool
-chosen_by (FewerThan hours) i g = nat_lt g hours
-chosen_by (Number at) i g = i == at
+-- the calls answer as `chosen` does, at every position and hours of a gap
+abbrev pub Chooses : (ℕ → ℕ → Bool → Type 0) → (ℕ → ℕ → Bool) → Type 0
+Chooses answers chosen = (i g : ℕ) (r : Bool) → i < 24 → g < 256 → answers i g r → r ≡ chosen i g
 
 abbrev pub bridged : ℕ → List Stretch → List Stretch
-bridged mdt ps = fill (chosen_by (FewerThan mdt)) ps
+bridged mdt ps = fill (λ i g. nat_lt g mdt) ps
 
 abbrev pub smaller : Option Gap → Gap → Option Gap
 smaller None g = Some g
@@ -62,7 +59,7 @@ smallest gs = smallest_from 0 None gs
 
 abbrev pub joined_at : Option Gap → List Stretch → List Stretch
 joined_at None ps = ps
-joined_at (Some g) ps = fill (chosen_by (Number g.at)) ps
+joined_at (Some g) ps = fill (λ i h. i == g.at) ps
 
 abbrev pub joined : List Stretch → List Stretch
 joined ps = joined_at (smallest (gaps ps)) ps

@@ -4,10 +4,3 @@ pub struct Gap {
     pub at: usize,
     pub hours: u8,
 }
-
-// Which gaps are to be filled.
-#[derive(Clone, Copy)]
-pub enum Choice {
-    FewerThan(u8),
-    Number(usize),
-}

@@ -1,9 +1,9 @@
-ghost use Rattle.std.specs.Prelude.{◌≡◌, ◌+◌, ◌-◌, ◌<◌, ◌≤◌, ◌&&◌, length, if◌then◌else◌, Some, None};
+ghost use Rattle.std.specs.Prelude.{◌≡◌, ◌+◌, ◌-◌, ◌<◌, ◌≤◌, Bool, ℕ, length, if◌then◌else◌, Some, None};
 ghost use Rattle.commitment.specs.Stretches.{listed, gap, gaps};
 ghost use Rattle.commitment.specs.CommitmentLaws.{SelfCommitted};
-ghost use Rattle.commitment.specs.Commitment.{stays, held, join, fill, chosen_by, bridged, smaller, smallest, joined, limit_of, limited, periods};
+ghost use Rattle.commitment.specs.Commitment.{stays, held, join, fill, Chooses, bridged, smaller, smallest, joined, limit_of, limited, periods};
 
-use crate::gaps::{Choice, Gap};
+use crate::gaps::Gap;
 use crate::stretch::{Stretch, Stretches, gap};
 
 fn stays_on(mrt: u8, ran: u8, flag: bool) -> bool
@@ -34,21 +34,10 @@ fn held(flags: &[bool; 24], mrt: u8) -> [bool; 24]
     hours
 }
 
-impl Choice {
-    fn takes(self, at: usize, hours: u8) -> bool
-        ensures { result ≡ chosen_by self at hours }
-    {
-        match self {
-            Choice::FewerThan(most) => hours < most,
-            Choice::Number(number) => at == number,
-        }
-    }
-}
-
 fn left_behind(filled: bool, p: Stretch) -> Option<Stretch>
     ensures { result ≡ (if filled then None else Some p) }
 {
-    if filled { None } else { Some(p) }
+    (!filled).then_some(p)
 }
 
 fn taken_on(filled: bool, p: Stretch, q: Stretch) -> Stretch
@@ -64,21 +53,21 @@ fn taken_on(filled: bool, p: Stretch, q: Stretch) -> Stretch
     }
 }
 
-// The gaps that are chosen are filled.
-fn fill(periods: &[Stretch], choice: Choice) -> Stretches
-    requires { length periods.now ≤ 24 }
-    ensures { listed result ≡ fill (chosen_by choice) periods.now }
+// The gaps that are chosen are filled, each by how many gaps lie before it and by its hours.
+fn fill<F: Fn(usize, u8) -> bool>(periods: &[Stretch], chosen: F) -> Stretches
+    requires few { length periods.now ≤ 24 }
+    requires callable { F.IsAlwaysCallable chosen }
+    ensures { (c : ℕ → ℕ → Bool) → Chooses (F.post chosen) c → listed result ≡ fill c periods.now }
 {
     let mut out = Stretches::none();
-    if periods.is_empty() {
+    let Some((first, rest)) = periods.split_first() else {
         return out;
-    }
-    let mut current = periods[0];
-    for i in 1..periods.len() {
-        let next = periods[i];
-        let filled = choice.takes(i - 1, gap(current, next));
+    };
+    let mut current = *first;
+    for (at, next) in rest.iter().enumerate() {
+        let filled = chosen(at, gap(current, *next));
         out.add(left_behind(filled, current));
-        current = taken_on(filled, current, next);
+        current = taken_on(filled, current, *next);
     }
     out.add(Some(current));
     out
@@ -120,7 +109,7 @@ fn smallest_gap(periods: &[Stretch]) -> Option<Gap>
 fn bridge(periods: &Stretches, mdt: u8) -> Stretches
     ensures { listed result ≡ bridged mdt (listed periods.now) }
 {
-    fill(periods.as_slice(), Choice::FewerThan(mdt))
+    fill(periods.as_slice(), |_, hours| hours < mdt)
 }
 
 // One join: the two periods with the smallest gap.
@@ -129,7 +118,7 @@ fn join_smallest(periods: &Stretches) -> Stretches
 {
     match smallest_gap(periods.as_slice()) {
         None => *periods,
-        Some(gap) => fill(periods.as_slice(), Choice::Number(gap.at)),
+        Some(gap) => fill(periods.as_slice(), |at, _| at == gap.at),
     }
 }
 
