@@ -1,5 +1,6 @@
 pub mod Scans
 pub mod Turns
+pub mod Smallest
 pub mod Holding
 pub mod Fills
 pub mod Joins

@@ -1,4 +1,4 @@
-ghost use Rattle.std.specs.Prelude.{◌≡◌, ◌+◌, ◌-◌, ◌<◌, ◌≤◌, Bool, ℕ, length, if◌then◌else◌, Some, None};
+ghost use Rattle.std.specs.Prelude.{◌≡◌, ◌+◌, ◌-◌, ◌<◌, ◌≤◌, Bool, ℕ, length, slice_index, if◌then◌else◌, Some, None};
 ghost use Rattle.commitment.specs.Stretches.{listed, gap, gaps};
 ghost use Rattle.commitment.specs.CommitmentLaws.{SelfCommitted};
 ghost use Rattle.commitment.specs.Commitment.{stays, held, join, fill, Chooses, bridged, smaller, smallest, joined, limit_of, limited, periods};
@@ -73,36 +73,25 @@ fn fill<F: Fn(usize, u8) -> bool>(periods: &[Stretch], chosen: F) -> Stretches
     out
 }
 
-fn smaller_of(least: Option<Gap>, gap: Gap) -> Option<Gap>
-    ensures { result ≡ smaller least gap }
+fn gap_within(pair: &[Stretch; 2]) -> u8
+    ensures { result ≡ slice_index (gaps pair.now) 0 }
 {
-    match least {
-        Some(least) if least.hours <= gap.hours => Some(least),
-        _ => Some(gap),
-    }
+    let [before, next] = pair;
+    gap(*before, *next)
 }
 
 // The smallest gap, the earliest on a tie.
 fn smallest_gap(periods: &[Stretch]) -> Option<Gap>
     ensures { result ≡ smallest (gaps periods.now) }
 {
-    if periods.is_empty() {
-        return None;
-    }
-    let mut least = None;
-    let mut before = periods[0];
-    for i in 1..periods.len() {
-        let next = periods[i];
-        least = smaller_of(
-            least,
-            Gap {
-                at: i - 1,
-                hours: gap(before, next),
-            },
-        );
-        before = next;
-    }
-    least
+    periods
+        .array_windows::<2>()
+        .enumerate()
+        .map(|(at, pair)| Gap {
+            at,
+            hours: gap_within(pair),
+        })
+        .min_by_key(|gap| gap.hours)
 }
 
 // Step 2: each gap of fewer than `mdt` hours is filled.

@@ -1,12 +1,14 @@
-use Rattle.std.proofs.Common.{◌-◌, ap, ◌∙◌}
-use Rattle.commitment.specs.Commitment.{smaller}
-use Rattle.commitment.proofs.Turns.{sought_more, sought_end}
+use Rattle.std.proofs.Common.{rules, tests}
+use Rattle.std.proofs.lemmas.Grind.{common_steps}
+use Rattle.std.proofs.lemmas.Iterator.{YieldsList-from_map}
+use Rattle.std.proofs.lemmas.Iterator.Consumers.{YieldsList-from_enumerate, YieldsList-at}
+use Rattle.commitment.specs.Stretches.{gaps}
+use Rattle.commitment.proofs.Smallest.{windows_give, placed, smallest_from_chain}
 use Rattle.commitment.proofs.steps.smallest_gap.Goals as goal
 
-pub loop-i-preserved : goal.loop-i-preserved
-loop-i-preserved c =
-    sought_more c.args.periods.now c.loop-i.least _ c.loop-i.before _ c.loop-i.i c.loop-i.auto.i c.loop-i-test.true
-    (c.smaller_of-least.ensures ∙ ap (λ h. smaller c.loop-i.least (record { at = c.loop-i.i - 1; hours = h })) c.gap.ensures) c.loop-i.invariant
-
 pub returns : goal.returns
-returns c = sought_end c.args.periods.now c.loop-i.least c.loop-i.before c.loop-i.i c.loop-i-test.false c.loop-i.invariant
+returns c =
+    let windows = windows_give {s = c.array_windows.result} c.args.periods.now c.array_windows.ensures.rest c.array_windows.ensures.size in
+    let counted = YieldsList-from_enumerate {s = c.enumerate.result} (YieldsList-at c.enumerate.ensures.source windows) c.enumerate.ensures.count in
+    smallest_from_chain _ _ (λ x k q called. search rules) c.map.result c.min_by_key.result (gaps c.args.periods.now) c.min_by_key.ensures.ran
+    (YieldsList-from_map _ placed (YieldsList-at c.map.ensures.source counted) c.map.ensures.closure (λ x r q k. search (rules, tests)))
