@@ -21,9 +21,12 @@ use Rattle.commitment.specs.declared.stretch.Stretch.{Stretch}
 use Rattle.commitment.specs.Stretches.{gap, gaps}
 use Rattle.commitment.specs.Commitment.{smaller, smallest_from, smallest}
 
+abbrev nowhere : Stretch
+nowhere = record { first = 0; last = 0 }
+
 -- the gap between the two of a window
 abbrev pub within : List Stretch → ℕ
-within pair = get_or (gaps pair) 0 0
+within pair = gap (get_or pair 0 nowhere) (get_or pair 1 nowhere)
 
 no-gaps : (ps : List Stretch) → length ps < 2 → length (gaps ps) ≡ 0
 no-gaps [] l = refl

@@ -1,4 +1,4 @@
-ghost use Rattle.std.specs.Prelude.{◌≡◌, ◌+◌, ◌-◌, ◌<◌, ◌≤◌, Bool, ℕ, length, slice_index, if◌then◌else◌, Some, None};
+ghost use Rattle.std.specs.Prelude.{◌≡◌, ◌+◌, ◌-◌, ◌<◌, ◌≤◌, Bool, ℕ, length, if◌then◌else◌, Some, None};
 ghost use Rattle.commitment.specs.Stretches.{listed, gap, gaps};
 ghost use Rattle.commitment.specs.CommitmentLaws.{SelfCommitted};
 ghost use Rattle.commitment.specs.Commitment.{stays, held, join, fill, Chooses, bridged, smaller, smallest, joined, limit_of, limited, periods};
@@ -73,13 +73,6 @@ fn fill<F: Fn(usize, u8) -> bool>(periods: &[Stretch], chosen: F) -> Stretches
     out
 }
 
-fn gap_within(pair: &[Stretch; 2]) -> u8
-    ensures { result ≡ slice_index (gaps pair.now) 0 }
-{
-    let [before, next] = pair;
-    gap(*before, *next)
-}
-
 // The smallest gap, the earliest on a tie.
 fn smallest_gap(periods: &[Stretch]) -> Option<Gap>
     ensures { result ≡ smallest (gaps periods.now) }
@@ -87,9 +80,9 @@ fn smallest_gap(periods: &[Stretch]) -> Option<Gap>
     periods
         .array_windows::<2>()
         .enumerate()
-        .map(|(at, pair)| Gap {
+        .map(|(at, [before, next])| Gap {
             at,
-            hours: gap_within(pair),
+            hours: gap(*before, *next),
         })
         .min_by_key(|gap| gap.hours)
 }
