@@ -1,7 +1,7 @@
 -- The loops of a day, turn by turn.
 use Rattle.std.proofs.Common.{◌≡◌, ℕ, suc, ◌+◌, ◌-◌, ◌<◌, ◌≤◌, Bool, true, false, cond, eqb, List, [], ◌∷◌, ◌++◌, map, length, get_or, take, drop, set, Some, None, Option, sym, refl, ap, ◌∙◌, append_assoc, append-nil, arith, length-append}
 use Rattle.std.specs.Option.{option_to_list}
-use Rattle.std.proofs.lemmas.List.{take_more_set, take_all, drop-set-lt, at_drop_more, at_drop_all}
+use Rattle.std.proofs.lemmas.List.{length-take, take_more_set, take_all, drop-set-lt, at_drop_more, at_drop_all}
 use Rattle.commitment.specs.declared.gaps.Gap.{Gap}
 use Rattle.commitment.specs.declared.stretch.Stretch.{Stretch}
 use Rattle.commitment.specs.Stretches.{added, gap, gaps_after, gaps}
@@ -38,38 +38,33 @@ pub one_longer : (on : Bool) (ran i next : ℕ) → next ≡ cond on (ran + 1) 0
 one_longer true ran i next e h = omega arith
 one_longer false ran i next e h = omega arith
 
--- one more period, by whether the gap behind the one at hand is filled
-fill-turn : (chosen : ℕ → ℕ → Bool) (i : ℕ) (p q : Stretch) (qs : List Stretch) (t : Bool) → t ≡ chosen i (gap p q)
-    → fill_from chosen i p (q ∷ qs) ≡ option_to_list (cond t None (Some p)) ++ fill_from chosen (i + 1) (cond t (join p q) q) qs
-fill-turn chosen i p q qs t e = ap (λ b. cond b (fill_from chosen (i + 1) (join p q) qs) (p ∷ fill_from chosen (i + 1) q qs)) (sym e) ∙ split t
-  where
-    split : (b : Bool) → cond b (fill_from chosen (i + 1) (join p q) qs) (p ∷ fill_from chosen (i + 1) q qs) ≡ option_to_list (cond b None (Some p)) ++ fill_from chosen (i + 1) (cond b (join p q) q) qs
-    split true = refl
-    split false = refl
+-- one more period, where the gap behind the one at hand is filled and where it is left
+module _ (out : List Stretch) (chosen : ℕ → ℕ → Bool) (rest : List Stretch) (i : ℕ) (p : Stretch) where
+  fill-turn : (d : Stretch) (b : Bool) → i < length rest → b ≡ chosen i (gap p (get_or rest i d))
+      → fill_from chosen i p (drop i rest) ≡ cond b (fill_from chosen (i + 1) (join p (get_or rest i d)) (drop (i + 1) rest)) (p ∷ fill_from chosen (i + 1) (get_or rest i d) (drop (i + 1) rest))
+  fill-turn d b h e =
+      at_drop_more (fill_from chosen i p) rest i d h
+      ∙ sym (ap (λ c. cond c (fill_from chosen (i + 1) (join p (get_or rest i d)) (drop (i + 1) rest)) (p ∷ fill_from chosen (i + 1) (get_or rest i d) (drop (i + 1) rest))) e)
 
-at_most_one : {X : Type 0} (o : Option X) → length (option_to_list o) ≤ 1
-at_most_one (Some x) = omega arith
-at_most_one None = omega arith
+  pub fill_joins : (d : Stretch) → i < length rest → true ≡ chosen i (gap p (get_or rest i d))
+      → out ++ fill_from chosen (i + 1) (join p (get_or rest i d)) (drop (i + 1) rest) ≡ out ++ fill_from chosen i p (drop i rest)
+  fill_joins d h e = ap (λ ps. out ++ ps) (sym (fill-turn d true h e))
 
-module _ (out out' : List Stretch) (o : Option Stretch) (few : length out < 24) (f : out' ≡ added out o) where
-  added-one : out' ≡ out ++ option_to_list o
-  added-one = let one = at_most_one o in f ∙ added-all out o (omega arith)
+  module _ (out' : List Stretch) (few : length out < 24) (f : out' ≡ added out (Some p)) where
+    pub fill_grows : length out' ≤ length out + 1
+    fill_grows = simp (f, length-take, length-append) (omega arith)
 
-  pub added_few : length out' ≤ length out + 1
-  added_few = let one = at_most_one o in simp (added-one, length-append) (omega arith)
-
-  module _ (chosen : ℕ → ℕ → Bool) (rest : List Stretch) (i : ℕ) (p : Stretch) where
-    pub fill_more : (t : Bool) (p' d : Stretch) → i < length rest → t ≡ chosen i (gap p (get_or rest i d)) → o ≡ cond t None (Some p) → p' ≡ cond t (join p (get_or rest i d)) (get_or rest i d)
-        → out' ++ fill_from chosen (i + 1) p' (drop (i + 1) rest) ≡ out ++ fill_from chosen i p (drop i rest)
-    fill_more t p' d h test is at =
-        let now = added-one in
-        let turn = at_drop_more (fill_from chosen i p) rest i d h ∙ fill-turn chosen i p (get_or rest i d) (drop (i + 1) rest) t test in
-        let assoc = append_assoc out (option_to_list o) (fill_from chosen (i + 1) p' (drop (i + 1) rest)) in
+    pub fill_leaves : (d : Stretch) → i < length rest → false ≡ chosen i (gap p (get_or rest i d))
+        → out' ++ fill_from chosen (i + 1) (get_or rest i d) (drop (i + 1) rest) ≡ out ++ fill_from chosen i p (drop i rest)
+    fill_leaves d h e =
+        let turn = fill-turn d false h e in
+        let now = f ∙ added-all out (Some p) (omega arith) in
+        let assoc = append_assoc out (p ∷ []) (fill_from chosen (i + 1) (get_or rest i d) (drop (i + 1) rest)) in
         cc
 
-    pub fill_end : length rest ≤ i → o ≡ Some p → out' ≡ out ++ fill_from chosen i p (drop i rest)
-    fill_end h is =
-        let now = added-one in
+    pub fill_end : length rest ≤ i → out' ≡ out ++ fill_from chosen i p (drop i rest)
+    fill_end h =
+        let now = f ∙ added-all out (Some p) (omega arith) in
         let last : fill_from chosen i p (drop i rest) ≡ p ∷ [] = at_drop_all (fill_from chosen i p) rest i h in
         cc
 

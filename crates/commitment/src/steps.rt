@@ -34,25 +34,6 @@ fn held(flags: &[bool; 24], mrt: u8) -> [bool; 24]
     hours
 }
 
-fn left_behind(filled: bool, p: Stretch) -> Option<Stretch>
-    ensures { result ≡ (if filled then None else Some p) }
-{
-    (!filled).then_some(p)
-}
-
-fn taken_on(filled: bool, p: Stretch, q: Stretch) -> Stretch
-    ensures { result ≡ (if filled then join p q else q) }
-{
-    if filled {
-        Stretch {
-            first: p.first,
-            last: q.last,
-        }
-    } else {
-        q
-    }
-}
-
 // The gaps that are chosen are filled, each by how many gaps lie before it and by its hours.
 fn fill<F: Fn(usize, u8) -> bool>(periods: &[Stretch], chosen: F) -> Stretches
     requires few { length periods.now ≤ 24 }
@@ -65,9 +46,12 @@ fn fill<F: Fn(usize, u8) -> bool>(periods: &[Stretch], chosen: F) -> Stretches
     };
     let mut current = *first;
     for (at, next) in rest.iter().enumerate() {
-        let filled = chosen(at, gap(current, *next));
-        out.add(left_behind(filled, current));
-        current = taken_on(filled, current, *next);
+        if chosen(at, gap(current, *next)) {
+            current.last = next.last;
+        } else {
+            out.add(Some(current));
+            current = *next;
+        }
     }
     out.add(Some(current));
     out
