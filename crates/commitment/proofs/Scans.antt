@@ -23,6 +23,9 @@ add-full items n p h room =
 pub added-all : (ps : List Stretch) (p : Option Stretch) → length ps + length (option_to_list p) ≤ 24 → added ps p ≡ ps ++ option_to_list p
 added-all ps p h = take_all 24 (ps ++ option_to_list p) (simp length-append (omega arith))
 
+pub added_few : (ps ps' : List Stretch) (p : Stretch) → ps' ≡ added ps (Some p) → length ps' ≤ length ps + 1
+added_few ps ps' p e = simp (e, length-take, length-append) (omega arith)
+
 -- an hour ends a stretch only if one was going, and then none is going
 ends_or_goes : (h : ℕ) (began : Option ℕ) (marked : Bool) → length (option_to_list (ended h began marked)) + length (option_to_list (going h began marked)) ≤ length (option_to_list began) + 1
 ends_or_goes h None true = omega arith

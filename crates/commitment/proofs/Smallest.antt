@@ -67,10 +67,10 @@ picks a x =
     ⊎_elim
     (λ (less : x.hours < a.hours). ap (λ o. min_by_ordering o a x) (sym (nat_cmp_is a.hours x.hours Greater less)) ∙ sym (ap (λ b. cond b x a) (lt-ltb x.hours a.hours less)))
     (λ (more : a.hours ≤ x.hours). ⊎_elim
-      (λ (less : a.hours < x.hours). ap (λ o. min_by_ordering o a x) (sym (nat_cmp_is a.hours x.hours Less less)))
-      (λ (less : x.hours ≤ a.hours). let same : a.hours ≡ x.hours = omega arith in ap (λ o. min_by_ordering o a x) (sym (nat_cmp_is a.hours x.hours Equal same)))
-      (cases_lt a.hours x.hours)
-      ∙ sym (ap (λ b. cond b x a) (le-ltb x.hours a.hours more)))
+    (λ (less : a.hours < x.hours). ap (λ o. min_by_ordering o a x) (sym (nat_cmp_is a.hours x.hours Less less)))
+    (λ (less : x.hours ≤ a.hours). let same : a.hours ≡ x.hours = omega arith in ap (λ o. min_by_ordering o a x) (sym (nat_cmp_is a.hours x.hours Equal same)))
+    (cases_lt a.hours x.hours)
+    ∙ sym (ap (λ b. cond b x a) (le-ltb x.hours a.hours more)))
     (cases_lt x.hours a.hours)
 
 keeps-key : (o : Ordering) (a x : Gap) → min_by_ordering o a.hours x.hours ≡ (min_by_ordering o a x).hours

@@ -51,9 +51,6 @@ module _ (out : List Stretch) (chosen : ℕ → ℕ → Bool) (rest : List Stret
   fill_joins d h e = ap (λ ps. out ++ ps) (sym (fill-turn d true h e))
 
   module _ (out' : List Stretch) (few : length out < 24) (f : out' ≡ added out (Some p)) where
-    pub fill_grows : length out' ≤ length out + 1
-    fill_grows = simp (f, length-take, length-append) (omega arith)
-
     pub fill_leaves : (d : Stretch) → i < length rest → false ≡ chosen i (gap p (get_or rest i d))
         → out' ++ fill_from chosen (i + 1) (get_or rest i d) (drop (i + 1) rest) ≡ out ++ fill_from chosen i p (drop i rest)
     fill_leaves d h e =
@@ -67,20 +64,6 @@ module _ (out : List Stretch) (chosen : ℕ → ℕ → Bool) (rest : List Stret
         let now = f ∙ added-all out (Some p) (omega arith) in
         let last : fill_from chosen i p (drop i rest) ≡ p ∷ [] = at_drop_all (fill_from chosen i p) rest i h in
         cc
-
--- the search for the smallest gap before period i
-abbrev pub Sought : List Stretch → Option Gap → Stretch → ℕ → Type 0
-Sought ps least p i = smallest_from (i - 1) least (gaps_after p (drop i ps)) ≡ smallest (gaps ps)
-
-pub sought_more : (ps : List Stretch) (least least' : Option Gap) (p d : Stretch) (i : ℕ) → 1 ≤ i → i < length ps
-    → least' ≡ smaller least (record { at = i - 1; hours = gap p (get_or ps i d) }) → Sought ps least p i → Sought ps least' (get_or ps i d) (i + 1)
-sought_more ps least least' p d i low h e inv =
-    let turn : smallest_from (i - 1) least (gaps_after p (drop i ps)) ≡ smallest_from (i - 1 + 1) (smaller least (record { at = i - 1; hours = gap p (get_or ps i d) })) (gaps_after (get_or ps i d) (drop (i + 1) ps)) = at_drop_more (λ qs. smallest_from (i - 1) least (gaps_after p qs)) ps i d h in
-    let place : i - 1 + 1 ≡ i + 1 - 1 = omega arith in
-    cc
-
-pub sought_end : (ps : List Stretch) (least : Option Gap) (p : Stretch) (i : ℕ) → length ps ≤ i → Sought ps least p i → least ≡ smallest (gaps ps)
-sought_end ps least p i h inv = sym (at_drop_all (λ qs. smallest_from (i - 1) least (gaps_after p qs)) ps i h) ∙ inv
 
 pub joins_step : (n k : ℕ) (ps next goal : List Stretch) → k < n → next ≡ joined ps → joins (n - k) ps ≡ goal → joins (n - (k + 1)) next ≡ goal
 joins_step n k ps next goal h e inv =

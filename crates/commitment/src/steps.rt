@@ -91,24 +91,19 @@ fn join_smallest(periods: &Stretches) -> Stretches
 fn limit_of(mds: u8, carried: bool, periods: &Stretches) -> usize
     ensures { result ≡ limit_of mds carried (listed periods.now) }
 {
-    let mds = usize::from(mds);
-    if carried && periods.cover(1) {
-        mds + 1
-    } else {
-        mds
-    }
+    usize::from(mds) + usize::from(carried && periods.cover(1))
 }
 
 // Step 3: joins, as many as there are periods above the limit, since each leaves one fewer.
 fn join_down(periods: &Stretches, limit: usize) -> Stretches
     ensures { listed result ≡ limited limit (listed periods.now) }
 {
-    let mut periods = *periods;
     let surplus = periods.as_slice().len().saturating_sub(limit);
-    for _k in 0..surplus {
-        periods = join_smallest(&periods);
+    let mut joined = *periods;
+    for _ in 0..surplus {
+        joined = join_smallest(&joined);
     }
-    periods
+    joined
 }
 
 // The self-commitment periods of a day whose flagged hours are these.
