@@ -10,11 +10,6 @@ pub add_none : (items : List Stretch) (n : ℕ) (p : Option Stretch) → n ≤ 2
 add_none items n p few room e =
     sym (ap (added (take n items)) e ∙ ap (take 24) (append-nil (take n items)) ∙ take_all 24 (take n items) (simp length-take (omega arith)))
 
-pub add-one : (items : List Stretch) (n : ℕ) (o : Option Stretch) (p : Stretch) → n < 24 → length items ≡ 24 → o ≡ Some p → take (n + 1) (set items n p) ≡ added (take n items) o
-add-one items n o p h room e =
-    take_more_set items n p (omega arith)
-    ∙ sym (ap (added (take n items)) e ∙ take_all 24 (take n items ++ (p ∷ [])) (simp (length-append, length-take) (omega arith)))
-
 pub add-full : (items : List Stretch) (n : ℕ) (p : Option Stretch) → 24 ≤ n → length items ≡ 24 → take n items ≡ added (take n items) p
 add-full items n p h room =
     let all = take_all n items (omega arith) in
@@ -33,11 +28,9 @@ ends_or_goes h None false = omega arith
 ends_or_goes h (Some f) true = omega arith
 ends_or_goes h (Some f) false = omega arith
 
-ends_one : (h : ℕ) (began : Option ℕ) (marked : Bool) → length (option_to_list (ended h began marked)) ≤ length (option_to_list began)
-ends_one h None true = omega arith
-ends_one h None false = omega arith
-ends_one h (Some f) true = omega arith
-ends_one h (Some f) false = omega arith
+ends_last : (h : ℕ) (began : Option ℕ) → length (option_to_list (ended h began false)) ≤ length (option_to_list began)
+ends_last h None = omega arith
+ends_last h (Some f) = omega arith
 
 -- the scan before an hour: the stretches found, and those to come of the marks that are left
 abbrev pub Scanned : List Bool → List Stretch → Option ℕ → ℕ → List Bool → Type 0
@@ -48,8 +41,7 @@ pub scan_more : (marks : List Bool) (found found' : List Stretch) (began began' 
     → now ≡ marked ∷ rest → next ≡ hour + 1 → e ≡ ended hour began marked → found' ≡ added found e → began' ≡ going hour began marked
     → Scanned marks found began hour now → Scanned marks found' began' next rest
 scan_more marks found found' began began' hour next marked now rest e m n is f b inv =
-    let few = ends_one hour began marked in
-    let later = ends_or_goes hour began marked in
+    let few = ends_or_goes hour began marked in
     let one = ap (λ o. length (option_to_list o)) is in
     let left = ap length m in
     let more : found' ≡ found ++ option_to_list e = f ∙ added-all found e (omega arith) in
@@ -59,7 +51,7 @@ scan_more marks found found' began began' hour next marked now rest e m n is f b
 pub scan_end : (marks : List Bool) (found found' : List Stretch) (began : Option ℕ) (hour : ℕ) (rest : List Bool) (e : Option Stretch)
     → rest ≡ [] → e ≡ ended 25 began false → found' ≡ added found e → Scanned marks found began hour rest → found' ≡ stretches marks
 scan_end marks found found' began hour rest e m is f inv =
-    let few = ends_one 25 began false in
+    let few = ends_last 25 began in
     let one = ap (λ o. length (option_to_list o)) is in
     let left = ap length m in
     let at : hour ≡ 25 = omega arith in

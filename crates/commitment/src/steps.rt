@@ -28,8 +28,8 @@ fn held(flags: &[bool; 24], mrt: u8) -> [bool; 24]
     let mut ran = 0;
     for hour in hours.iter_mut() {
         let on = stays_on(mrt, ran, *hour);
-        *hour = on;
         ran = ran_on(on, ran);
+        *hour = on;
     }
     hours
 }
