@@ -1,5 +1,5 @@
 -- The chain over the neighbours of a list of periods gives its smallest gap.
-use Rattle.std.proofs.Common.{⊎_elim, ◌≡◌, ℕ, ◌+◌, ◌-◌, ◌<◌, ◌≤◌, Bool, true, false, cond, ltb, List, [], ◌∷◌, map, length, get_or, take, drop, Some, None, Option, sym, refl, ap, ◌∙◌, subst, arith}
+use Rattle.std.proofs.Common.{⊎_elim, ◌≡◌, ℕ, ◌+◌, ◌<◌, ◌≤◌, true, false, cond, ltb, List, [], ◌∷◌, map, length, get_or, take, drop, Some, None, Option, sym, refl, ap, ◌∙◌, subst, arith}
 use Rattle.std.specs.Cmp.{nat_cmp_is}
 use Rattle.std.specs.Fn.{CalledAt}
 use Rattle.std.specs.Iterator.{Drains, KeyTurn, PicksMinByKey}
@@ -19,7 +19,7 @@ use denote.Ref.{Bor}
 use Rattle.commitment.specs.declared.gaps.Gap.{Gap}
 use Rattle.commitment.specs.declared.stretch.Stretch.{Stretch}
 use Rattle.commitment.specs.Stretches.{gap, gaps}
-use Rattle.commitment.specs.Commitment.{smaller, smallest_from, smallest}
+use Rattle.commitment.specs.Commitment.{smallest_from, smallest}
 
 abbrev nowhere : Stretch
 nowhere = record { first = 0; last = 0 }

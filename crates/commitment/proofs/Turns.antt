@@ -1,11 +1,9 @@
 -- The loops of a day, turn by turn.
-use Rattle.std.proofs.Common.{◌≡◌, ℕ, suc, ◌+◌, ◌-◌, ◌<◌, ◌≤◌, Bool, true, false, cond, eqb, List, [], ◌∷◌, ◌++◌, map, length, get_or, take, drop, set, Some, None, Option, sym, refl, ap, ◌∙◌, append_assoc, append-nil, arith, length-append}
-use Rattle.std.specs.Option.{option_to_list}
-use Rattle.std.proofs.lemmas.List.{length-take, take_more_set, take_all, drop-set-lt, at_drop_more, at_drop_all}
-use Rattle.commitment.specs.declared.gaps.Gap.{Gap}
+use Rattle.std.proofs.Common.{◌≡◌, ℕ, suc, ◌+◌, ◌-◌, ◌<◌, ◌≤◌, Bool, true, false, cond, List, [], ◌∷◌, ◌++◌, map, length, get_or, take, drop, set, Some, sym, ap, ◌∙◌, append_assoc, append-nil, arith}
+use Rattle.std.proofs.lemmas.List.{take_more_set, take_all, drop-set-lt, at_drop_more, at_drop_all}
 use Rattle.commitment.specs.declared.stretch.Stretch.{Stretch}
-use Rattle.commitment.specs.Stretches.{added, gap, gaps_after, gaps}
-use Rattle.commitment.specs.Commitment.{stays, held_from, join, fill_from, fill, smaller, smallest_from, smallest, joined_at, joined, joins}
+use Rattle.commitment.specs.Stretches.{added, gap}
+use Rattle.commitment.specs.Commitment.{stays, held_from, join, fill_from, joined, joins}
 use Rattle.commitment.proofs.Scans.{added-all}
 
 -- a loop that writes a list from the front: what is to come is x and then rest, and x is written

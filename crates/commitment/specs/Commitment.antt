@@ -4,7 +4,8 @@
 --   stays      step 1, one hour: flagged, or the hour before belongs to a period that began fewer than MRT hours ago
 --   held       step 1: which hours belong
 --   join       two periods and the gap between them, as one
---   fill       the gaps that are chosen are filled
+--   fill       the gaps that are chosen are filled, by their position and their hours
+--   Chooses    the calls of a function answer as a choice does, at every gap of a day
 --   bridged    step 2: every gap of fewer than MDT hours is filled
 --   smallest   the smallest gap, the earliest on a tie, if there is a gap
 --   joined     the two periods with that gap are joined
@@ -39,7 +40,7 @@ abbrev pub fill : (ℕ → ℕ → Bool) → List Stretch → List Stretch
 fill chosen [] = []
 fill chosen (p ∷ ps) = fill_from chosen 0 p ps
 
--- the calls answer as `chosen` does, at every position and hours of a gap
+-- `answers i g r` says that a call may answer r; a day has fewer than 24 gaps, of fewer than 256 hours
 abbrev pub Chooses : (ℕ → ℕ → Bool → Type 0) → (ℕ → ℕ → Bool) → Type 0
 Chooses answers chosen = (i g : ℕ) (r : Bool) → i < 24 → g < 256 → answers i g r → r ≡ chosen i g
 

@@ -9,7 +9,7 @@
 --   covers           whether an hour lies in one of the stretches
 --   hours            how many hours a stretch has
 --   gap, gaps        the hours between a stretch and the next; between each and its next
-use Rattle.std.specs.Prelude.{ℕ, ◌+◌, ◌-◌, Bool, false, cond, ◌&&◌, ◌||◌, List, [], ◌∷◌, ◌++◌, take, Some, None, Option, nat_le}
+use Rattle.std.specs.Prelude.{ℕ, ◌+◌, ◌-◌, Bool, false, cond, ◌&&◌, List, [], ◌∷◌, ◌++◌, take, Some, None, Option, nat_le}
 use Rattle.std.specs.List.{list_any}
 use Rattle.std.specs.Option.{option_to_list}
 use Rattle.commitment.specs.declared.stretch.Stretch.{Stretch}
