@@ -3,17 +3,17 @@ use Rattle.std.proofs.Common.{⊎_elim, ◌≡◌, ℕ, ◌+◌, ◌<◌, ◌≤
 use Rattle.std.specs.Cmp.{nat_cmp_is}
 use Rattle.std.specs.Fn.{CalledAt}
 use Rattle.std.specs.Iterator.{Drains, KeyTurn, PicksMinByKey}
-use Rattle.std.specs.List.{FoldsTo, fold, enumerate_from}
+use Rattle.std.specs.List.{FoldsTo, fold, reduce, enumerate_from}
 use Rattle.std.specs.Ordering.{nat_cmp, min_by_ordering}
 use Rattle.std.specs.Slice.ArrayWindows.{array_windows_parts, array_windows_steps}
 use Rattle.std.specs.Slice.Iter.{windows_rest, windows_size}
 use Rattle.std.specs.declared.cmp.Ordering.{Ordering}
 use Rattle.std.specs.declared.cmp.Ordering.TheVariants.{Less, Equal, Greater}
 use Rattle.std.specs.declared.slice.ArrayWindows.{ArrayWindows}
-use Rattle.std.proofs.lemmas.Iterator.{YieldsList, items_from_drains}
+use Rattle.std.proofs.lemmas.Iterator.{YieldsList}
 use Rattle.std.proofs.lemmas.Iterator.Splits.{YieldsList-from_shown_while}
-use Rattle.std.proofs.lemmas.List.{map-id}
-use Rattle.std.proofs.lemmas.Bool.{cases_lt, lt-ltb, le-ltb}
+use Rattle.std.proofs.lemmas.Iterator.Consumers.{reduce_from_yields_List}
+use Rattle.std.proofs.lemmas.Bool.Decides.{nat_tests}
 use denote.Param.Members.{Mut}
 use denote.Ref.{Bor}
 use Rattle.commitment.specs.declared.gaps.Gap.{Gap}
@@ -62,52 +62,31 @@ smallest-fold (g ∷ gs) i least =
     elim (ltb g least.hours) as (λ b. smallest_from (i + 1) (cond b (Some (placed (i, g))) (Some least)) gs ≡ Some (fold lesser (cond b (placed (i, g)) least) (map placed (enumerate_from (i + 1) gs))))
     [ true ↦ smallest-fold gs (i + 1) (placed (i, g)) | false ↦ smallest-fold gs (i + 1) least ]
 
+as-smallest : (gs : List ℕ) → reduce lesser (map placed (enumerate_from 0 gs)) ≡ smallest gs
+as-smallest [] = refl
+as-smallest (g ∷ gs) = sym (smallest-fold gs 1 (placed (0, g)))
+
 picks : (a x : Gap) → min_by_ordering (nat_cmp a.hours x.hours) a x ≡ lesser a x
-picks a x =
-    ⊎_elim
-    (λ (less : x.hours < a.hours). ap (λ o. min_by_ordering o a x) (sym (nat_cmp_is a.hours x.hours Greater less)) ∙ sym (ap (λ b. cond b x a) (lt-ltb x.hours a.hours less)))
-    (λ (more : a.hours ≤ x.hours). ⊎_elim
-    (λ (less : a.hours < x.hours). ap (λ o. min_by_ordering o a x) (sym (nat_cmp_is a.hours x.hours Less less)))
-    (λ (less : x.hours ≤ a.hours). let same : a.hours ≡ x.hours = omega arith in ap (λ o. min_by_ordering o a x) (sym (nat_cmp_is a.hours x.hours Equal same)))
-    (cases_lt a.hours x.hours)
-    ∙ sym (ap (λ b. cond b x a) (le-ltb x.hours a.hours more)))
-    (cases_lt x.hours a.hours)
+picks a x = grind (arith, nat_tests)
 
 keeps-key : (o : Ordering) (a x : Gap) → min_by_ordering o a.hours x.hours ≡ (min_by_ordering o a x).hours
 keeps-key Less a x = refl
 keeps-key Equal a x = refl
 keeps-key Greater a x = refl
 
--- the first gap, and the others folded onto it
-none-smallest : (gs : List ℕ) → [] ≡ map placed (enumerate_from 0 gs) → None ≡ smallest gs
-none-smallest [] e = refl
-none-smallest (g ∷ gs) e = cc
-
-some-smallest : (gs : List ℕ) (x y : Gap) (xs : List Gap) → x ∷ xs ≡ map placed (enumerate_from 0 gs) → y ≡ fold lesser x xs → Some y ≡ smallest gs
-some-smallest [] x y xs e b = cc
-some-smallest (g ∷ gs) x y xs e b =
-    let all = smallest-fold gs 1 (placed (0, g)) in
-    let first : x ≡ placed (0, g) = cc in
-    let others : xs ≡ map placed (enumerate_from 1 gs) = cc in
-    cc
-
-drained : {S A : Type 0} (steps : S → Option A → S → Type 0) (s : S) (xs all : List A) → Drains steps s xs → YieldsList steps (λ x. x) s all → xs ≡ all
-drained steps s xs all d road = sym (map-id xs) ∙ items_from_drains xs (d.1.0, d.1.1, λ _. (d.0, d.1.2)) road
-
+-- what `min_by_key` answers, over a chain that gives the gaps and a key that is the gap's hours
 module _ {F : Type 0} (call : Mut F (Bor Gap × Unit {0}) ℕ) (f : F) (key : (x : Gap) (k : ℕ) (q : F) → CalledAt call f x k q → (q ≡ f) × (k ≡ x.hours)) where
-  picked : (xs : List Gap) (p q : (F × ℕ) × Gap) → p.0.0 ≡ f → p.0.1 ≡ p.1.hours → FoldsTo (KeyTurn min_by_ordering min_by_ordering call nat_cmp) p xs q → q.1 ≡ fold lesser p.1 xs
-  picked [] p q same is h = ap (λ r. r.1) (sym h)
+  picked : (xs : List Gap) (p q : (F × ℕ) × Gap) → p.0.0 ≡ f → p.0.1 ≡ p.1.hours → FoldsTo (KeyTurn min_by_ordering min_by_ordering call nat_cmp) p xs q → FoldsTo (λ a x b. b ≡ lesser a x) p.1 xs q.1
+  picked [] p q same is h = ap (λ r. r.1) h
   picked (x ∷ xs) p q same is (j, (k, o, called, cmp, j-key, j-best), more) =
       let now = key x k j.0.0 (subst (λ e. CalledAt call e x k j.0.0) same called) in
       let o-is : o ≡ nat_cmp p.1.hours x.hours = cc in
-      let best : j.1 ≡ lesser p.1 x = j-best ∙ ap (λ r. min_by_ordering r p.1 x) o-is ∙ picks p.1 x in
-      let keyed : j.0.1 ≡ j.1.hours = j-key ∙ ap (λ m. min_by_ordering o m k) is ∙ ap (min_by_ordering o p.1.hours) now.1 ∙ keeps-key o p.1 x ∙ ap (λ g. g.hours) (sym j-best) in
-      picked xs j q now.0 keyed more ∙ ap (λ g. fold lesser g xs) best
+      let keyed : j.0.1 ≡ j.1.hours = cc (keeps-key o p.1 x) in
+      (j.1, j-best ∙ ap (λ r. min_by_ordering r p.1 x) o-is ∙ picks p.1 x, picked xs j q now.0 keyed more)
 
-  -- what `min_by_key` answers, over a chain that gives the gaps
   pub smallest_from_chain : {S : Type 0} {steps : S → Option Gap → S → Type 0} (s : S) (r : Option Gap) (gs : List ℕ)
       → PicksMinByKey steps call nat_cmp s f r → YieldsList steps (λ g. g) s (map placed (enumerate_from 0 gs)) → r ≡ smallest gs
-  smallest_from_chain {S} {steps} s None gs d road = none-smallest gs (drained steps s [] _ d road)
+  smallest_from_chain {S} {steps} s None gs d road = reduce_from_yields_List {steps = steps} lesser s None d road ∙ as-smallest gs
   smallest_from_chain {S} {steps} s (Some y) gs (x, xs, k, f', q, d, first, more) road =
       let start = key x k f' first in
-      some-smallest gs x y xs (drained steps s (x ∷ xs) _ d road) (picked xs ((f', k), x) (q, y) start.0 start.1 more)
+      reduce_from_yields_List {steps = steps} lesser s (Some y) (x, xs, d, picked xs ((f', k), x) (q, y) start.0 start.1 more) road ∙ as-smallest gs
