@@ -75,11 +75,7 @@ due_later : (h : ℕ) (flag : Bool) (rest : List Bool) (k : ℕ) → Due h (flag
 due_later h flag rest k due l = sym (flag_later h flag rest k l) ∙ due (omega arith)
 
 due-after : (h : ℕ) (rest : List Bool) (k : ℕ) → Due h (false ∷ rest) k → h ≤ k → h + 1 ≤ k
-due-after h rest k due l =
-    ⊎_elim
-    (λ lt. omega arith)
-    (λ le. absurd (false≢true (sym (flag_now h false rest k (omega arith)) ∙ due l)))
-    (cases_lt h k)
+due-after h rest k due l = grind (arith, due l, flag_now h false rest k)
 
 runs_in : {mrt h : ℕ} {began : Option ℕ} {flags : List Bool} {ps : List Stretch} → Runs mrt h began flags ps → (k : ℕ) → from h began ≤ k → Due h flags k → In ps k
 runs_in ends_idle k l due = absurd (false≢true (due l))
@@ -105,7 +101,7 @@ module _ (F : ℕ → Type 0) (mrt : ℕ) where
 
   explained_later : (f h : ℕ) → Explained f h → F h ⊎ (h < f + mrt) → Explained f (h + 1)
   explained_later f h x why k a b =
-      ⊎_elim (x k a) (λ le. let e : h ≡ k = omega arith in subst (λ n. F n ⊎ (n < f + mrt)) e why) (cases_lt k h)
+      ⊎_elim (x k a) (λ le. let e : h ≡ k = omega arith in rw (← e) why) (cases_lt k h)
 
   explained_in : (f h k : ℕ) (ps : List Stretch) → f < h → Explained f h → Within (up_to f h) k → F k ⊎ HeldOn mrt (up_to f h ∷ ps) k
   explained_in f h k ps lt x w = ⊎_elim inl (λ held. inr (inl (w, held))) (x k w.0 (omega arith))

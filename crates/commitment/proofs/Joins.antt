@@ -40,8 +40,8 @@ fill-past at i p [] l = refl
 fill-past at i p (q ∷ qs) l = rw (ne_eqb i at (λ e. omega arith)) (ap (λ rs. p ∷ rs) (fill-past at (i + 1) q qs (omega arith)))
 
 gaps-before : (p q a : Stretch) (before qs rest : List Stretch) → q ∷ qs ≡ before ++ (a ∷ rest) → gaps_after p (before ++ (a ∷ [])) ≡ gap p q ∷ gaps (before ++ (a ∷ []))
-gaps-before p q a [] qs rest e = let same : a ≡ q = cc in ap (λ x. gap p x ∷ []) same
-gaps-before p q a (b ∷ bs) qs rest e = let same : b ≡ q = cc in ap (λ x. gap p x ∷ gaps_after b (bs ++ (a ∷ []))) same
+gaps-before p q a [] qs rest e = cc
+gaps-before p q a (b ∷ bs) qs rest e = cc
 
 -- a join that fills a gap of n hours
 abbrev JoinedOver : ℕ → List Stretch → List Stretch → Type 0
@@ -95,9 +95,7 @@ joined-joins p q qs = let (g, same, least) = joined-fill p q qs in
 -- each join leaves one period fewer, so that as many are made as there are periods too many
 joined_length : (ps qs : List Stretch) → Joined ps qs → length ps ≡ length qs + 1
 joined_length ps qs j =
-    let were : length ps ≡ length j.before + length (j.one ∷ (j.next ∷ j.after)) = ap length j.were ∙ length-append j.before _ in
-    let are : length qs ≡ length j.before + length (join j.one j.next ∷ j.after) = ap length j.are ∙ length-append j.before _ in
-    omega arith
+    grind (arith, simp length-append at (ap length j.were), simp length-append at (ap length j.are))
 
 pub joins-down : (limit : ℕ) → 1 ≤ limit → (n : ℕ) (ps : List Stretch) → n ≡ length ps - limit → JoinedDown limit ps (joins n ps)
 joins-down limit l zero ps e = few_enough ps (omega arith)
