@@ -1,6 +1,7 @@
 -- Step 1: the periods are in order and long enough, they hold every flagged hour, and every other hour of theirs is held on.
 use Rattle.std.proofs.Common.{◌≡◌, ℕ, suc, ◌+◌, ◌-◌, ◌<◌, ◌≤◌, Bool, true, false, cond, ltb, ◌⊎◌, List, [], ◌∷◌, length, get_or, Some, None, Option, sym, refl, ap, ◌∙◌, subst, inl, inr, ⊎_elim, arith}
 use Rattle.std.specs.List.{AllByRecursion}
+use Rattle.std.proofs.lemmas.Bool.Decides.{nat_tests}
 use Rattle.std.proofs.lemmas.Bool.{cases_lt, lt-ltb, le-ltb, and_from, and_right, false≢true}
 use Rattle.commitment.specs.declared.stretch.Stretch.{Stretch}
 use Rattle.commitment.specs.Stretches.{hours, gaps, gaps_after, stretches_from, stretches}
@@ -161,10 +162,8 @@ runs-apart (stops {h} lt long r) = apart-after _ _ (h + 1) (omega arith) (runs_r
 -- Without a minimum run time an hour belongs if it is marked, so that the same holds of the stretches of any marks.
 held-nothing : (ran : ℕ) (marks : List Bool) → held_from 0 ran marks ≡ marks
 held-nothing ran [] = refl
-held-nothing ran (true ∷ rest) = ap (λ bs. true ∷ bs) (held-nothing (ran + 1) rest)
-held-nothing ran (false ∷ rest) =
-    let off = and_right (ltb 0 ran) (ltb ran 0) (le-ltb ran 0 (omega arith)) in
-    ap (λ b. b ∷ held_from 0 (cond b (ran + 1) 0) rest) off ∙ ap (λ bs. false ∷ bs) (held-nothing 0 rest)
+held-nothing ran (true ∷ rest) = cc (held-nothing (ran + 1) rest)
+held-nothing ran (false ∷ rest) = grind (arith, nat_tests, held-nothing 0 rest)
 
 not-held : (ps : List Stretch) (h : ℕ) → HeldOn 0 ps h → ⊥
 not-held [] h x = x

@@ -1,6 +1,7 @@
 -- Step 3: each join is of the two periods with the smallest gap, the earliest on a tie, and joins are made while there are too many periods.
 use Rattle.std.proofs.Common.{◌≡◌, ℕ, zero, suc, ◌+◌, ◌-◌, ◌<◌, ◌≤◌, ltb, eqb, ◌⊎◌, List, [], ◌∷◌, ◌++◌, length, Some, sym, refl, ap, ◌∙◌, subst, inl, inr, arith, length-append}
 use Rattle.std.specs.List.{AllByRecursion}
+use Rattle.std.proofs.lemmas.Bool.Decides.{nat_tests}
 use Rattle.std.proofs.lemmas.Bool.{cond_both, ltb-true, ltb-false, eq-eqb, ne_eqb}
 use Rattle.commitment.specs.declared.gaps.Gap.{Gap}
 use Rattle.commitment.specs.declared.stretch.Stretch.{Stretch}
@@ -37,7 +38,7 @@ smallest_best (x ∷ xs) i f =
 -- the gap at that position is filled, and no other
 fill-past : (at i : ℕ) (p : Stretch) (qs : List Stretch) → at < i → fill_from (λ i h. eqb i at) i p qs ≡ p ∷ qs
 fill-past at i p [] l = refl
-fill-past at i p (q ∷ qs) l = rw (ne_eqb i at (λ e. omega arith)) (ap (λ rs. p ∷ rs) (fill-past at (i + 1) q qs (omega arith)))
+fill-past at i p (q ∷ qs) l = grind (arith, nat_tests, fill-past at (i + 1) q qs)
 
 gaps-before : (p q a : Stretch) (before qs rest : List Stretch) → q ∷ qs ≡ before ++ (a ∷ rest) → gaps_after p (before ++ (a ∷ [])) ≡ gap p q ∷ gaps (before ++ (a ∷ []))
 gaps-before p q a [] qs rest e = cc

@@ -1,19 +1,18 @@
 -- The list of stretches, and the scan of a day for them.
 use Rattle.std.proofs.Common.{◌≡◌, ℕ, ◌+◌, ◌<◌, ◌≤◌, Bool, true, false, List, [], ◌∷◌, ◌++◌, length, take, Some, None, Option, sym, ap, ◌∙◌, append_assoc, append-nil, arith, length-append}
 use Rattle.std.specs.Option.{option_to_list}
-use Rattle.std.proofs.lemmas.List.{take_all, take-append-le, length-take}
+use Rattle.std.proofs.lemmas.List.{places, take_all, take-append-le, length-take}
 use Rattle.commitment.specs.declared.stretch.Stretch.{Stretch}
 use Rattle.commitment.specs.Stretches.{added, ended, going, stretches_from, stretches}
 
 -- adding, where there is room and where there is none
 pub add_none : (items : List Stretch) (n : ℕ) (p : Option Stretch) → n ≤ 24 → length items ≡ 24 → p ≡ None → take n items ≡ added (take n items) p
 add_none items n p few room e =
-    sym (ap (added (take n items)) e ∙ ap (take 24) (append-nil (take n items)) ∙ take_all 24 (take n items) (simp length-take (omega arith)))
+    grind (arith, places, append-nil (take n items), take_all 24 (take n items))
 
 pub add-full : (items : List Stretch) (n : ℕ) (p : Option Stretch) → 24 ≤ n → length items ≡ 24 → take n items ≡ added (take n items) p
 add-full items n p h room =
-    let all = take_all n items (omega arith) in
-    all ∙ sym (ap (λ xs. added xs p) all ∙ take-append-le 24 items (option_to_list p) (omega arith) ∙ take_all 24 items (omega arith))
+    grind (arith, take_all n items, take-append-le 24 items (option_to_list p), take_all 24 items)
 
 pub added-all : (ps : List Stretch) (p : Option Stretch) → length ps + length (option_to_list p) ≤ 24 → added ps p ≡ ps ++ option_to_list p
 added-all ps p h = take_all 24 (ps ++ option_to_list p) (simp length-append (omega arith))

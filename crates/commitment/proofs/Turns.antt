@@ -32,10 +32,6 @@ held_more mrt ran next i hours on h e n =
     let assoc = append_assoc (take i hours) (on ∷ []) (held_from mrt next (drop (i + 1) hours)) in
     cc
 
-pub one_longer : (on : Bool) (ran i next : ℕ) → next ≡ cond on (ran + 1) 0 → ran ≤ i → next ≤ i + 1
-one_longer true ran i next e h = omega arith
-one_longer false ran i next e h = omega arith
-
 -- one more period, where the gap behind the one at hand is filled and where it is left
 module _ (out : List Stretch) (chosen : ℕ → ℕ → Bool) (rest : List Stretch) (i : ℕ) (p : Stretch) where
   fill-turn : (d : Stretch) (b : Bool) → i < length rest → b ≡ chosen i (gap p (get_or rest i d))
