@@ -21,19 +21,12 @@ abbrev Least : Gap → ℕ → List ℕ → Type 0
 Least g i [] = ⊥
 Least g i (x ∷ xs) = Best g (record { at = i; hours = x }) (i + 1) xs (Least g (i + 1) xs)
 
-best_next : (g f : Gap) (i x : ℕ) (xs : List ℕ) → x < f.hours → Least g i (x ∷ xs) → Best g f i (x ∷ xs) (Least g i (x ∷ xs))
-best_next g f i x xs lt l = inr (omega arith, omega arith, l)
-
-best_kept : (g f : Gap) (i x : ℕ) (xs : List ℕ) → f.hours ≤ x → Best g f (i + 1) xs (Least g (i + 1) xs) → Best g f i (x ∷ xs) (Least g i (x ∷ xs))
-best_kept g f i x xs le (inl kept) = inl (kept.0, kept.1, (le, kept.2))
-best_kept g f i x xs le (inr later) = inr (omega arith, later.1, inr (later.0, omega arith, later.2))
-
 smallest_best : (xs : List ℕ) (i : ℕ) (f : Gap) → (g : Gap) × (smallest_from i (Some f) xs ≡ Some g) × Best g f i xs (Least g i xs)
 smallest_best [] i f = (f, refl, inl (refl, refl, tt))
 smallest_best (x ∷ xs) i f =
     cond_both (ltb x f.hours) _ _ (λ o. (g : Gap) × (smallest_from (i + 1) o xs ≡ Some g) × Best g f i (x ∷ xs) (Least g i (x ∷ xs)))
-    (λ e. let (g, same, b) = smallest_best xs (i + 1) (record { at = i; hours = x }) in (g, same, best_next g f i x xs (ltb-true x f.hours e) b))
-    (λ e. let (g, same, b) = smallest_best xs (i + 1) f in (g, same, best_kept g f i x xs (ltb-false x f.hours e) b))
+    (λ e. let (g, same, b) = smallest_best xs (i + 1) (record { at = i; hours = x }) in (g, same, inr (grind (arith, b), grind (arith, b, ltb-true x f.hours e), b)))
+    (λ e. let (g, same, b) = smallest_best xs (i + 1) f in (g, same, grind (arith, b, ltb-false x f.hours e)))
 
 -- the gap at that position is filled, and no other
 fill-past : (at i : ℕ) (p : Stretch) (qs : List Stretch) → at < i → fill_from (λ i h. eqb i at) i p qs ≡ p ∷ qs

@@ -34,30 +34,19 @@ held_more mrt ran next i hours on h e n =
 
 -- one more period, where the gap behind the one at hand is filled and where it is left
 module _ (out : List Stretch) (chosen : ℕ → ℕ → Bool) (rest : List Stretch) (i : ℕ) (p : Stretch) where
-  fill-turn : (d : Stretch) (b : Bool) → i < length rest → b ≡ chosen i (gap p (get_or rest i d))
-      → fill_from chosen i p (drop i rest) ≡ cond b (fill_from chosen (i + 1) (join p (get_or rest i d)) (drop (i + 1) rest)) (p ∷ fill_from chosen (i + 1) (get_or rest i d) (drop (i + 1) rest))
-  fill-turn d b h e =
-      at_drop_more (fill_from chosen i p) rest i d h
-      ∙ sym (ap (λ c. cond c (fill_from chosen (i + 1) (join p (get_or rest i d)) (drop (i + 1) rest)) (p ∷ fill_from chosen (i + 1) (get_or rest i d) (drop (i + 1) rest))) e)
-
   pub fill_joins : (d : Stretch) → i < length rest → true ≡ chosen i (gap p (get_or rest i d))
       → out ++ fill_from chosen (i + 1) (join p (get_or rest i d)) (drop (i + 1) rest) ≡ out ++ fill_from chosen i p (drop i rest)
-  fill_joins d h e = ap (λ ps. out ++ ps) (sym (fill-turn d true h e))
+  fill_joins d h e = grind (arith, at_drop_more (fill_from chosen i p) rest i d)
 
   module _ (out' : List Stretch) (few : length out < 24) (f : out' ≡ added out (Some p)) where
     pub fill_leaves : (d : Stretch) → i < length rest → false ≡ chosen i (gap p (get_or rest i d))
         → out' ++ fill_from chosen (i + 1) (get_or rest i d) (drop (i + 1) rest) ≡ out ++ fill_from chosen i p (drop i rest)
     fill_leaves d h e =
-        let turn = fill-turn d false h e in
-        let now = f ∙ added-all out (Some p) (omega arith) in
-        let assoc = append_assoc out (p ∷ []) (fill_from chosen (i + 1) (get_or rest i d) (drop (i + 1) rest)) in
-        cc
+        grind (arith, at_drop_more (fill_from chosen i p) rest i d, f ∙ added-all out (Some p) (omega arith), append_assoc)
 
     pub fill_end : length rest ≤ i → out' ≡ out ++ fill_from chosen i p (drop i rest)
     fill_end h =
-        let now = f ∙ added-all out (Some p) (omega arith) in
-        let last : fill_from chosen i p (drop i rest) ≡ p ∷ [] = at_drop_all (fill_from chosen i p) rest i h in
-        cc
+        grind (arith, at_drop_all (fill_from chosen i p) rest i h, f ∙ added-all out (Some p) (omega arith))
 
 pub joins_step : (n k : ℕ) (ps next goal : List Stretch) → k < n → next ≡ joined ps → joins (n - k) ps ≡ goal → joins (n - (k + 1)) next ≡ goal
 joins_step n k ps next goal h e inv =
