@@ -37,8 +37,7 @@ first-gap : (n : ℕ) (ps pair rest : List Stretch) → n ≡ 2 → 2 ≤ length
 first-gap n [] pair rest e l t d = absurd (omega arith)
 first-gap n (p ∷ []) pair rest e l t d = absurd (omega arith)
 first-gap n (p ∷ (q ∷ qs)) pair rest e l t d =
-    let two : pair ≡ p ∷ (q ∷ []) = t ∙ ap (λ m. take m (p ∷ (q ∷ qs))) e in
-    sym (ap (λ w. within w ∷ gaps rest) two ∙ ap (λ r. gap p q ∷ gaps r) d)
+    cc (ap (λ m. take m (p ∷ (q ∷ qs))) e)
 
 pub windows_give : {s : ArrayWindows Stretch 2} (ps : List Stretch) → windows_rest (array_windows_parts s) ≡ ps → windows_size (array_windows_parts s) ≡ 2
     → YieldsList (array_windows_steps {A = Stretch} {n = 2}) (λ w. within w.now) s (gaps ps)
@@ -59,8 +58,7 @@ lesser least g = cond (ltb g.hours least.hours) g least
 smallest-fold : (gs : List ℕ) (i : ℕ) (least : Gap) → smallest_from i (Some least) gs ≡ Some (fold lesser least (map placed (enumerate_from i gs)))
 smallest-fold [] i least = refl
 smallest-fold (g ∷ gs) i least =
-    elim (ltb g least.hours) as (λ b. smallest_from (i + 1) (cond b (Some (placed (i, g))) (Some least)) gs ≡ Some (fold lesser (cond b (placed (i, g)) least) (map placed (enumerate_from (i + 1) gs))))
-    [ true ↦ smallest-fold gs (i + 1) (placed (i, g)) | false ↦ smallest-fold gs (i + 1) least ]
+    grind (arith, nat_tests, smallest-fold gs (i + 1) (placed (i, g)), smallest-fold gs (i + 1) least)
 
 as-smallest : (gs : List ℕ) → reduce lesser (map placed (enumerate_from 0 gs)) ≡ smallest gs
 as-smallest [] = refl

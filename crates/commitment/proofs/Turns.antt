@@ -26,11 +26,7 @@ map_now f xs i d y h e = at_drop_more (map f) xs i d h ∙ ap (λ z. z ∷ map f
 pub held_more : (mrt ran next i : ℕ) (hours : List Bool) (on : Bool) → i < length hours → on ≡ stays mrt ran (get_or hours i false) → next ≡ cond on (ran + 1) 0
     → take (i + 1) (set hours i on) ++ held_from mrt next (drop (i + 1) (set hours i on)) ≡ take i hours ++ held_from mrt ran (drop i hours)
 held_more mrt ran next i hours on h e n =
-    let now : held_from mrt ran (drop i hours) ≡ stays mrt ran (get_or hours i false) ∷ held_from mrt (cond (stays mrt ran (get_or hours i false)) (ran + 1) 0) (drop (i + 1) hours) = at_drop_more (held_from mrt ran) hours i false h in
-    let front = take_more_set hours i on h in
-    let back = drop-set-lt (i + 1) hours i on (omega arith) in
-    let assoc = append_assoc (take i hours) (on ∷ []) (held_from mrt next (drop (i + 1) hours)) in
-    cc
+    grind (arith, at_drop_more (held_from mrt ran) hours i false, take_more_set hours i on, drop-set-lt (i + 1) hours i on, append_assoc)
 
 -- one more period, where the gap behind the one at hand is filled and where it is left
 module _ (out : List Stretch) (chosen : ℕ → ℕ → Bool) (rest : List Stretch) (i : ℕ) (p : Stretch) where
@@ -50,5 +46,4 @@ module _ (out : List Stretch) (chosen : ℕ → ℕ → Bool) (rest : List Stret
 
 pub joins_step : (n k : ℕ) (ps next goal : List Stretch) → k < n → next ≡ joined ps → joins (n - k) ps ≡ goal → joins (n - (k + 1)) next ≡ goal
 joins_step n k ps next goal h e inv =
-    let m : n - k ≡ suc (n - (k + 1)) = omega arith in
-    ap (joins (n - (k + 1))) e ∙ sym (ap (λ (j : ℕ). joins j ps) m) ∙ inv
+    let m : n - k ≡ suc (n - (k + 1)) = omega arith in cc (ap (λ (j : ℕ). joins j ps) m)
