@@ -76,10 +76,7 @@ module _ (Size : ℕ → Type 0) (h : ℕ) where
 
   within-join : (p q : Stretch) (qs : List Stretch) → Size (gap p q) → Within (join p q) h → Reach Size (p ∷ (q ∷ qs)) h
   within-join p q qs s w =
-      ⊎_elim
-      (λ past. ⊎_elim (λ before. inr (inl (past, before, s))) (λ from. inl (inr (inl (from, w.1)))) (cases_lt h q.first))
-      (λ upto. inl (inl (w.0, upto)))
-      (cases_lt p.last h)
+      grind (arith, s, cases_lt p.last h, cases_lt h q.first)
 
   after-join : (p q : Stretch) (qs : List Stretch) → BetweenAfter Size (join p q) qs h → BetweenAfter Size q qs h
   after-join p q [] b = b

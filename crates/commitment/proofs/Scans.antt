@@ -1,5 +1,5 @@
 -- The list of stretches, and the scan of a day for them.
-use Rattle.std.proofs.Common.{◌≡◌, ℕ, ◌+◌, ◌<◌, ◌≤◌, Bool, true, false, List, [], ◌∷◌, ◌++◌, length, take, Some, None, Option, sym, ap, ◌∙◌, append_assoc, append-nil, arith, length-append}
+use Rattle.std.proofs.Common.{◌≡◌, ℕ, ◌+◌, ◌<◌, ◌≤◌, Bool, true, false, List, [], ◌∷◌, ◌++◌, length, take, Some, None, Option, ap, ◌∙◌, append_assoc, append-nil, arith, length-append}
 use Rattle.std.specs.Option.{option_to_list}
 use Rattle.std.proofs.lemmas.List.{places, take_all, take-append-le, length-take}
 use Rattle.commitment.specs.declared.stretch.Stretch.{Stretch}
@@ -51,8 +51,5 @@ pub scan_end : (marks : List Bool) (found found' : List Stretch) (began : Option
     → rest ≡ [] → e ≡ ended 25 began false → found' ≡ added found e → Scanned marks found began hour rest → found' ≡ stretches marks
 scan_end marks found found' began hour rest e m is f inv =
     let few = ends_last 25 began in
-    let one = ap (λ o. length (option_to_list o)) is in
     let left = ap length m in
-    let at : hour ≡ 25 = omega arith in
-    let more : found' ≡ found ++ option_to_list e = f ∙ added-all found e (omega arith) in
-    cc
+    grind (arith, f ∙ added-all found e (omega (arith, ap (λ o. length (option_to_list o)) is)))

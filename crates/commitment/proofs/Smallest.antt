@@ -1,8 +1,7 @@
 -- The chain over the neighbours of a list of periods gives its smallest gap.
-use Rattle.std.proofs.Common.{⊎_elim, ◌≡◌, ℕ, ◌+◌, ◌<◌, ◌≤◌, true, false, cond, ltb, List, [], ◌∷◌, map, length, get_or, take, drop, Some, None, Option, sym, refl, ap, ◌∙◌, subst, arith}
-use Rattle.std.specs.Cmp.{nat_cmp_is}
+use Rattle.std.proofs.Common.{◌≡◌, ℕ, ◌+◌, ◌<◌, ◌≤◌, cond, ltb, List, [], ◌∷◌, map, length, get_or, take, drop, Some, None, Option, sym, refl, ap, ◌∙◌, subst, arith}
 use Rattle.std.specs.Fn.{CalledAt}
-use Rattle.std.specs.Iterator.{Drains, KeyTurn, PicksMinByKey}
+use Rattle.std.specs.Iterator.{KeyTurn, PicksMinByKey}
 use Rattle.std.specs.List.{FoldsTo, fold, reduce, enumerate_from}
 use Rattle.std.specs.Ordering.{nat_cmp, min_by_ordering}
 use Rattle.std.specs.Slice.ArrayWindows.{array_windows_parts, array_windows_steps}
