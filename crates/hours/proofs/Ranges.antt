@@ -1,31 +1,29 @@
--- The check of a list of fields, field by field, and a value made of fields that all fit.
-use Rattle.std.proofs.Common.{◌≡◌, ℕ, ◌+◌, ◌<◌, ◌≤◌, true, false, ◌&&◌, List, length, get_or, drop, Ok, Err, Result, sym, refl, ap, ◌∙◌}
+-- The check of a list of fields by its first that does not fit, and a value made of fields that all fit.
+use Rattle.std.proofs.Common.{◌≡◌, ℕ, ◌+◌, Bool, true, false, not, List, [], ◌∷◌, Some, None, Ok, Err, Result, sym, refl, ap, ◌∙◌, arith}
+use Rattle.std.specs.List.{position, position_from}
+use Rattle.std.proofs.lemmas.Iterator.Adapters.{position_from-zero}
 use mathlib.Core.Path.{path_j'}
-use Rattle.std.proofs.lemmas.List.{at_drop_more, at_drop_all}
-use Rattle.std.proofs.lemmas.Bool.{cond-true, cond-false, and_left}
 use Rattle.hours.specs.declared.range.Field.{Field}
 use Rattle.hours.specs.declared.range.OutOfRange.{OutOfRange}
 use Rattle.hours.specs.Ranges.{fits, all_fit, first_out, out_of_range, when_true, made, Inside, Outside}
 
--- the check before field i: those to come decide
-abbrev pub Unchecked : List Field → ℕ → Type 0
-Unchecked fs i = (all_fit (drop i fs) ≡ all_fit fs) × (first_out (i + 1) (drop i fs) ≡ first_out 1 fs)
+abbrev pub fits_not : Field → Bool
+fits_not f = not (fits f)
 
-module _ (fs : List Field) (i : ℕ) (d : Field) (h : i < length fs) (inv : Unchecked fs i) where
-  pub field_fits : fits (get_or fs i d) ≡ true → Unchecked fs (i + 1)
-  field_fits e = (
-    ap (λ b. b && all_fit (drop (i + 1) fs)) (sym e) ∙ sym (at_drop_more all_fit fs i d h) ∙ inv.0,
-    sym (at_drop_more (first_out (i + 1)) fs i d h ∙ cond-true _ _ _ e) ∙ inv.1,
-  )
+-- the search, where the list starts at index i
+found_from : (fs : List Field) (i k : ℕ) → position_from fits_not i fs ≡ Some k → (all_fit fs ≡ false) × (first_out (i + 1) fs ≡ k + 1)
+found_from [] i k e = cc
+found_from (f ∷ fs) i k e = grind (arith, found_from fs (i + 1) k)
 
-  pub field_out : fits (get_or fs i d) ≡ false → (all_fit fs ≡ false) × (first_out 1 fs ≡ i + 1)
-  field_out e = (
-    sym inv.0 ∙ at_drop_more all_fit fs i d h ∙ and_left _ _ e,
-    sym inv.1 ∙ at_drop_more (first_out (i + 1)) fs i d h ∙ cond-false _ _ _ e,
-  )
+none_from : (fs : List Field) (i : ℕ) → position_from fits_not i fs ≡ None → all_fit fs ≡ true
+none_from [] i e = refl
+none_from (f ∷ fs) i e = grind (arith, none_from fs (i + 1))
 
-pub all-checked : (fs : List Field) (i : ℕ) → length fs ≤ i → Unchecked fs i → all_fit fs ≡ true
-all-checked fs i h inv = sym inv.0 ∙ at_drop_all all_fit fs i h
+pub field_out : (fs : List Field) (i : ℕ) → position fits_not fs ≡ Some i → (all_fit fs ≡ false) × (first_out 1 fs ≡ i + 1)
+field_out fs i e = found_from fs 0 i (sym (position_from-zero fits_not fs) ∙ e)
+
+pub all_fit_none_out : (fs : List Field) → position fits_not fs ≡ None → all_fit fs ≡ true
+all_fit_none_out fs e = none_from fs 0 (sym (position_from-zero fits_not fs) ∙ e)
 
 -- A check of the fields fs, as the code writes them, is one of the same fields as the rules write them.
 module _ {X : Type 0} (fs gs : List Field) (same : fs ≡ gs) (make : all_fit gs ≡ true → X) where

@@ -1,4 +1,4 @@
-ghost use Rattle.std.specs.Prelude.{◌≡◌, replicate, Some, None};
+ghost use Rattle.std.specs.Prelude.{◌≡◌, ◌-◌, replicate, Some, None};
 ghost use Rattle.hours.specs.Days.{hour_of, slot_at, placed};
 
 use super::{Day, Hour};
@@ -11,13 +11,13 @@ impl Hour {
         check(&[Field(hour, 1, 24)])?;
         Ok(Hour { number: hour as u8 })
     }
-}
 
-// The one way in which a slot changes: it is lent here.
-fn put<T: Copy>(slot: &mut Option<T>, value: Option<T>)
-    ensures { slot.new ≡ value }
-{
-    *slot = value;
+    // Where the hour stands in an array of the day.
+    fn index(self) -> usize
+        ensures { result ≡ self.number - 1 }
+    {
+        usize::from(self.number) - 1
+    }
 }
 
 impl<T: Copy> Day<T> {
@@ -30,13 +30,13 @@ impl<T: Copy> Day<T> {
     pub fn get(&self, at: Hour) -> Option<T>
         ensures { result ≡ slot_at self.now.slots at.number }
     {
-        self.slots[usize::from(at.number) - 1]
+        self.slots[at.index()]
     }
 
     pub fn set(&mut self, at: Hour, value: T)
         ensures { self.new ≡ record { slots = placed self.old.slots at.number (Some value) } }
     {
-        put(&mut self.slots[usize::from(at.number) - 1], Some(value));
+        self.slots[at.index()] = Some(value);
     }
 
     // What was struck, if anything stood there.
@@ -44,8 +44,6 @@ impl<T: Copy> Day<T> {
         ensures reply { result ≡ slot_at self.old.slots at.number }
         ensures after { self.new ≡ record { slots = placed self.old.slots at.number None } }
     {
-        let stood = self.get(at);
-        put(&mut self.slots[usize::from(at.number) - 1], None);
-        stood
+        self.slots[at.index()].take()
     }
 }

@@ -1,20 +1,21 @@
-use Rattle.std.proofs.Common.{◌≡◌, Err, sym, ap, ◌∙◌}
+use Rattle.std.proofs.Common.{◌≡◌, Err, sym, ap, ◌∙◌, rules, tests}
 use Rattle.std.proofs.lemmas.Bool.{cond-true, cond-false}
+use Rattle.std.proofs.lemmas.Iterator.{YieldsList-from_slice}
+use Rattle.std.proofs.lemmas.Iterator.Search.{position_from_yields_List}
 use Rattle.hours.specs.declared.range.OutOfRange.{OutOfRange}
 use Rattle.hours.specs.Ranges.{out_of_range, all_in}
-use Rattle.hours.proofs.Ranges.{field_fits, field_out, all-checked}
+use Rattle.hours.proofs.Ranges.{fits_not, field_out, all_fit_none_out}
 use Rattle.hours.proofs.range.checks.check.Goals as goal
 
-pub returns-then-not-fits : goal.returns-then-not-fits
-returns-then-not-fits c =
-    let out = field_out c.args.fields.now c.loop-i.i _ c.loop-i-test.true c.loop-i.invariant (sym c.if-not-fits.ensures) in
+pub returns-in-Some : goal.returns-in-Some
+returns-in-Some c =
+    let found = position_from_yields_List fits_not _ _ c.position.result c.position.ensures.ran (YieldsList-from_slice c.args.fields.now cc) (λ x b q k. search (rules, tests)) in
+    let out = field_out c.args.fields.now c.in-Some.i (sym found ∙ c.in-Some.is) in
     let first : ◌≡◌ {A = OutOfRange} (record { field = _ }) (out_of_range c.args.fields.now) = ap (λ n. record { field = n }) (sym out.1) in
     record { value = sym (cond-false _ _ _ out.0 ∙ ap Err (sym first)); cases = record { test = out.0; first = first } }
 
-pub loop-i-preserved : goal.loop-i-preserved
-loop-i-preserved c = field_fits c.args.fields.now c.loop-i.i _ c.loop-i-test.true c.loop-i.invariant (sym c.if-not-fits.ensures)
-
-pub returns : goal.returns
-returns c =
-    let fit = all-checked c.args.fields.now c.loop-i.i c.loop-i-test.false c.loop-i.invariant in
+pub returns-in-None : goal.returns-in-None
+returns-in-None c =
+    let found = position_from_yields_List fits_not _ _ c.position.result c.position.ensures.ran (YieldsList-from_slice c.args.fields.now cc) (λ x b q k. search (rules, tests)) in
+    let fit = all_fit_none_out c.args.fields.now (sym found ∙ c.in-None.is) in
     record { value = sym (cond-true _ _ _ fit); cases = record { test = fit; all = all_in _ fit } }
