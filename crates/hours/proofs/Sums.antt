@@ -1,7 +1,12 @@
 -- Sums over the hours of a day, hour by hour.
-use Rattle.std.proofs.Common.{◌≡◌, ℕ, ◌+◌, ◌*◌, ◌^◌, ◌<◌, ◌≤◌, ℤ, pos, ◌+ℤ◌, nat_abs, refl, ap, ◌∙◌, subst, mul-one, mul-add, add-one, arith, w64, SFits, to_z, of_z}
+use Rattle.std.proofs.Common.{◌≡◌, ℕ, zero, suc, ◌+◌, ◌*◌, ◌^◌, ◌<◌, ◌≤◌, ℤ, pos, negsuc, ◌+ℤ◌, nat_abs, List, length, get_or, take, sym, refl, ap, ◌∙◌, subst, mul-one, mul-add, add-one, arith, w64, SFits, to_z, of_z}
+use Rattle.std.specs.Int.{saturate_to_bits}
+use Rattle.std.specs.List.{fold, sum_by}
+use Rattle.std.proofs.lemmas.List.{take_all}
+use Rattle.std.proofs.lemmas.List.Sums.{fold_more, sum_by_more}
 use Rattle.std.proofs.lemmas.Nat.{mul-le}
 use Rattle.std.proofs.lemmas.Int.{to_z-of_z}
+use Rattle.money.proofs.Products.{abs-add-le}
 use Rattle.hours.specs.Days.{over_hours, over_day, add_hours, add_day}
 
 -- the first i hours are added up, each within n
@@ -49,3 +54,47 @@ add-more f n total x i is small inv =
 
 pub add-all : (f : ℕ → ℕ) (n total i : ℕ) → i ≡ 24 → Added f n total i → (total ≡ add_day f) × (total ≤ n * 24)
 add-all f n total i e inv = (inv.0 ∙ ap (add_hours f) e, subst (λ k. total ≤ n * k) e inv.1)
+
+-- A sum over a list with one item an hour, each within n: a sum that is held at the ends of i64 ..
+held-within : (z : ℤ) → nat_abs z ≤ 2 ^ 60 → saturate_to_bits 63 z ≡ z
+held-within (pos k) h = ap pos (omega arith)
+held-within (negsuc k) h = ap negsuc (omega arith)
+
+abbrev pub held_sum : {X : Type 0} → (X → ℤ) → List X → ℤ
+held_sum g xs = fold (λ a x. saturate_to_bits 63 (a +ℤ g x)) (pos 0) xs
+
+module _ {X : Type 0} (g : X → ℤ) (f : ℕ → ℤ) (n : ℕ) (xs : List X) (d : X)
+    (far : n ≤ 2 ^ 50) (day : length xs ≡ 24) (same : (i : ℕ) → i < 24 → g (get_or xs i d) ≡ f i) (small : (x : X) → nat_abs (g x) ≤ n) where
+  held_so_far : (i : ℕ) → i ≤ 24 → Summed f n (held_sum g (take i xs)) i
+  unfolding over_hours
+  held_so_far zero h = (refl, omega arith)
+  held_so_far (suc i) h =
+      let total = held_sum g (take i xs) in
+      let x = get_or xs i d in
+      let so_far = held_so_far i (omega arith) in
+      let size = abs-add-le total (g x) in
+      let part = small x in
+      let most = mul-le n i (2 ^ 50) 24 far (omega arith) in
+      let room : n * (i + 1) ≡ n * i + n = mul-add n i 1 ∙ ap (λ m. n * i + m) (mul-one n) in
+      let more = fold_more (λ a x. saturate_to_bits 63 (a +ℤ g x)) (pos 0) xs i d (omega arith) in
+      let exact = held-within (total +ℤ g x) (omega arith) in
+      let here = same i (omega arith) in
+      let next = ap (over_hours f) (add-one i) in
+      let is : held_sum g (take (i + 1) xs) ≡ over_hours f (i + 1) = cc in
+      let bound : nat_abs (held_sum g (take (i + 1) xs)) ≤ n * (i + 1) = subst (λ z. nat_abs z ≤ n * (i + 1)) (sym (more ∙ exact)) (omega arith) in
+      subst (λ k. Summed f n (held_sum g (take k xs)) k) (add-one i) (is, bound)
+
+  pub held : Summed f n (held_sum g xs) 24
+  held = subst (λ ys. Summed f n (held_sum g ys) 24) (take_all 24 xs (omega arith)) (held_so_far 24 (omega arith))
+
+-- .. and one of quantities
+module _ {X : Type 0} (g : X → ℕ) (n : ℕ) (xs : List X) (d : X) (day : length xs ≡ 24) (small : (x : X) → g x ≤ n) where
+  added_so_far : (i : ℕ) → i ≤ 24 → Added (λ k. g (get_or xs k d)) n (sum_by g (take i xs)) i
+  unfolding add_hours
+  added_so_far zero h = (refl, omega arith)
+  added_so_far (suc i) h =
+      subst (λ k. Added (λ k. g (get_or xs k d)) n (sum_by g (take k xs)) k) (add-one i)
+      (subst (λ m. Added (λ k. g (get_or xs k d)) n m (i + 1)) (sym (sum_by_more g xs i d (omega arith))) (add-more _ n _ _ i refl (small _) (added_so_far i (omega arith))))
+
+  pub added : Added (λ k. g (get_or xs k d)) n (sum_by g xs) 24
+  added = subst (λ ys. Added (λ k. g (get_or xs k d)) n (sum_by g ys) 24) (take_all 24 xs (omega arith)) (added_so_far 24 (omega arith))

@@ -59,7 +59,15 @@ impl Day<HourRecord> {
         ensures value { result ≡ energy self.now.slots prices.now.slots }
         ensures bound { unsigned_abs result ≤ 1440000000 }
     {
-        sum_energy(&self.slots, &prices.slots)
+        self.slots
+            .iter()
+            .zip(&prices.slots)
+            .fold(0, |total, (slot, price)| {
+                plus(
+                    total,
+                    HourRecord::counted(*slot).energy(&Price::counted(*price)),
+                )
+            })
     }
 
     // What a resource drew over the day, in kWh.
@@ -67,7 +75,10 @@ impl Day<HourRecord> {
         ensures value { result ≡ demand self.now.slots }
         ensures bound { result ≤ 2400000 }
     {
-        sum_demand(&self.slots)
+        self.slots
+            .iter()
+            .map(|slot| HourRecord::counted(*slot).demand())
+            .sum()
     }
 
     // What a resource's meter was below its schedule, hour by hour, in kWh.
@@ -75,41 +86,9 @@ impl Day<HourRecord> {
         ensures value { result ≡ deviation self.now.slots }
         ensures bound { result ≤ 4800000 }
     {
-        sum_deviation(&self.slots)
+        self.slots
+            .iter()
+            .map(|slot| HourRecord::counted(*slot).deviation())
+            .sum()
     }
-}
-
-fn sum_energy(slots: &[Option<HourRecord>; 24], prices: &[Option<Price>; 24]) -> i64
-    ensures value { result ≡ energy slots.now prices.now }
-    ensures bound { unsigned_abs result ≤ 1440000000 }
-{
-    let mut total: i64 = 0;
-    for i in 0..24 {
-        let hour = HourRecord::counted(slots[i]);
-        let price = Price::counted(prices[i]);
-        total = plus(total, hour.energy(&price));
-    }
-    total
-}
-
-fn sum_demand(slots: &[Option<HourRecord>; 24]) -> u64
-    ensures value { result ≡ demand slots.now }
-    ensures bound { result ≤ 2400000 }
-{
-    let mut total: u64 = 0;
-    for i in 0..24 {
-        total += HourRecord::counted(slots[i]).demand();
-    }
-    total
-}
-
-fn sum_deviation(slots: &[Option<HourRecord>; 24]) -> u64
-    ensures value { result ≡ deviation slots.now }
-    ensures bound { result ≤ 4800000 }
-{
-    let mut total: u64 = 0;
-    for i in 0..24 {
-        total += HourRecord::counted(slots[i]).deviation();
-    }
-    total
 }
