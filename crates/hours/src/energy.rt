@@ -62,12 +62,8 @@ impl Day<HourRecord> {
         self.slots
             .iter()
             .zip(&prices.slots)
-            .fold(0, |total, (slot, price)| {
-                plus(
-                    total,
-                    HourRecord::counted(*slot).energy(&Price::counted(*price)),
-                )
-            })
+            .map(|(slot, price)| HourRecord::counted(*slot).energy(&Price::counted(*price)))
+            .fold(0, |total, part| plus(total, part))
     }
 
     // What a resource drew over the day, in kWh.

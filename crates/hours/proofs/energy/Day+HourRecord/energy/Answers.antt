@@ -2,7 +2,8 @@ use Rattle.std.proofs.Common.{Option, None, ◌≤◌, ℤ, pos, ◌+ℤ◌, nat
 use Rattle.std.specs.Int.{saturate_to_bits}
 use Rattle.std.specs.List.{zip}
 use Rattle.std.proofs.lemmas.Int.{to_z-of_z}
-use Rattle.std.proofs.lemmas.Iterator.{YieldsList-from_slice, YieldsList-from_zip}
+use Rattle.std.proofs.lemmas.Iterator.{YieldsList-from_slice, YieldsList-from_map, YieldsList-from_zip}
+use Rattle.std.proofs.lemmas.List.Folds.{fold-map}
 use Rattle.std.proofs.lemmas.Iterator.Consumers.{fold_from_yields_List}
 use Rattle.std.proofs.lemmas.Slice.Zip.{length-zip, get_or-zip}
 use Rattle.hours.specs.declared.records.HourRecord.{HourRecord}
@@ -22,7 +23,8 @@ returns c =
     let prices = c.args.prices.now.slots in
     let all = held slot_energy (energy_at slots prices) 60000000 (zip slots prices) (None, None) (omega arith) (omega (arith, length-zip slots prices))
     (λ i h. ap slot_energy (get_or-zip slots prices i (None, None) (omega arith) (omega arith))) (λ p. energy_size (counted p.0) (price_or0 p.1)) in
-    let is = fold_from_yields_List _ (λ a p. saturate_to_bits 63 (a +ℤ slot_energy p)) (pos 0) c.fold.result c.fold.ensures.ran
-    (YieldsList-from_zip (YieldsList-from_slice slots cc) (YieldsList-from_slice prices cc)) (λ a x b q k. search (rules, tests)) in
+    let is = fold_from_yields_List _ (λ a x. saturate_to_bits 63 (a +ℤ x)) (pos 0) c.fold.result c.fold.ensures.ran
+        (YieldsList-from_map _ slot_energy (YieldsList-from_zip (YieldsList-from_slice slots cc) (YieldsList-from_slice prices cc)) c.map.ensures.closure (λ x r q k. search (rules, tests)))
+        (λ a x b q k. search (rules, tests)) ∙ fold-map _ slot_energy (pos 0) (zip slots prices) in
     let back = to_z-of_z w64 c.fold.result (record { sfits = c.fold.type_inv }) in
     record { value = back ∙ is ∙ all.0; bound = subst (λ z. nat_abs z ≤ 1440000000) (sym (back ∙ is)) all.1 }
