@@ -1,6 +1,7 @@
 ghost use Rattle.hours.specs.Bounds.{HourBounds, PriceBounds};
 
 mod making;
+mod prices;
 
 // What a resource did in one hour, in kWh: supply above zero, load below.
 #[derive(Clone, Copy)]

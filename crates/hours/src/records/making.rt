@@ -1,15 +1,12 @@
 ghost use Rattle.std.specs.Prelude.{◌≡◌};
-ghost use Rattle.hours.specs.Days.{zeros, counted, no_price, price_or0};
-ghost use Rattle.hours.specs.Records.{generator_hour, load_hour, price_of};
+ghost use Rattle.hours.specs.Days.{zeros, counted};
+ghost use Rattle.hours.specs.Records.{generator_hour, load_hour};
 
-use super::{HourRecord, Price};
+use super::HourRecord;
 use crate::range::{Field, OutOfRange, check};
 
 // kWh in an hour
 const MOST_ENERGY: i64 = 100_000;
-
-// cents per MWh
-const MOST_PRICE: i64 = 200_000;
 
 impl HourRecord {
     pub fn of_generator(
@@ -49,57 +46,24 @@ impl HourRecord {
             committed: false,
         })
     }
-}
 
-impl Price {
-    pub fn new(day_ahead: i64, real_time: i64) -> Result<Price, OutOfRange>
-        ensures { result ≡ price_of day_ahead real_time }
+    // An hour without a record counts as zeros.
+    pub fn counted(slot: Option<HourRecord>) -> HourRecord
+        ensures { result ≡ counted slot }
     {
-        check(&[
-            Field(day_ahead, -MOST_PRICE, MOST_PRICE),
-            Field(real_time, -MOST_PRICE, MOST_PRICE),
-        ])?;
-        Ok(Price {
-            day_ahead: day_ahead as i32,
-            real_time: real_time as i32,
-        })
+        slot.unwrap_or_default()
     }
 }
 
-impl HourRecord {
-    fn zeros() -> HourRecord
-        ensures { result ≡ zeros }
-    {
+impl Default for HourRecord {
+    ghost is_default = { λ hour. hour ≡ zeros };
+
+    fn default() -> HourRecord {
         HourRecord {
             day_ahead: 0,
             meter: 0,
             self_schedule: 0,
             committed: false,
         }
-    }
-
-    // An hour without a record counts as zeros.
-    pub fn counted(slot: Option<HourRecord>) -> HourRecord
-        ensures { result ≡ counted slot }
-    {
-        slot.unwrap_or(HourRecord::zeros())
-    }
-}
-
-impl Price {
-    fn none() -> Price
-        ensures { result ≡ no_price }
-    {
-        Price {
-            day_ahead: 0,
-            real_time: 0,
-        }
-    }
-
-    // Only an hour without a record does without a price, and its energy is zero.
-    pub fn counted(slot: Option<Price>) -> Price
-        ensures { result ≡ price_or0 slot }
-    {
-        slot.unwrap_or(Price::none())
     }
 }

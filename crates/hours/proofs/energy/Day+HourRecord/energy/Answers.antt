@@ -24,7 +24,7 @@ returns c =
     let all = held slot_energy (energy_at slots prices) 60000000 (zip slots prices) (None, None) (omega arith) (omega (arith, length-zip slots prices))
     (λ i h. ap slot_energy (get_or-zip slots prices i (None, None) (omega arith) (omega arith))) (λ p. energy_size (counted p.0) (price_or0 p.1)) in
     let is = fold_from_yields_List _ (λ a x. saturate_to_bits 63 (a +ℤ x)) (pos 0) c.fold.result c.fold.ensures.ran
-        (YieldsList-from_map _ slot_energy (YieldsList-from_zip (YieldsList-from_slice slots cc) (YieldsList-from_slice prices cc)) c.map.ensures.closure (λ x r q k. search (rules, tests)))
-        (λ a x b q k. search (rules, tests)) ∙ fold-map _ slot_energy (pos 0) (zip slots prices) in
+    (YieldsList-from_map _ slot_energy (YieldsList-from_zip (YieldsList-from_slice slots cc) (YieldsList-from_slice prices cc)) c.map.ensures.closure (λ x r q k. search (rules, tests)))
+    (λ a x b q k. search (rules, tests)) ∙ fold-map _ slot_energy (pos 0) (zip slots prices) in
     let back = to_z-of_z w64 c.fold.result (record { sfits = c.fold.type_inv }) in
     record { value = back ∙ is ∙ all.0; bound = subst (λ z. nat_abs z ≤ 1440000000) (sym (back ∙ is)) all.1 }
