@@ -19,7 +19,7 @@ pub fn product(kwh: i32, price: i32) -> i64
     i64::from(kwh) * i64::from(price)
 }
 
-// The same of energy that is not signed.
+// The same of energy that is not signed; one function over both kinds would be longer than the two.
 pub fn cost(kwh: u32, price: i32) -> i64
     ensures { result ≡ pos kwh *ℤ price }
 {
@@ -31,7 +31,7 @@ pub fn cost(kwh: u32, price: i32) -> i64
 pub fn or_zero(amount: i64) -> u64
     ensures { result ≡ or_zero amount }
 {
-    if amount < 0 { 0 } else { amount as u64 }
+    u64::try_from(amount).unwrap_or(0)
 }
 
 // A sum of two amounts, held at the ends of i64. Sums of a day stay far from them.
