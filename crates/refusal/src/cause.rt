@@ -48,14 +48,12 @@ impl Refusal {
         match *self {
             Refusal::FieldOutOfRange { field } => field as u64,
             Refusal::TooFewRows { needed, .. } => needed as u64,
-            Refusal::NotRegistered { id, .. } => u64::from(id),
-            Refusal::InUse { id, .. } => u64::from(id),
+            Refusal::NotRegistered { id, .. } | Refusal::InUse { id, .. } => id.into(),
             Refusal::Full { store } => store.number(),
-            Refusal::DraftOut { draft } => u64::from(draft),
-            Refusal::NoSuchDraft { draft } => u64::from(draft),
-            Refusal::PriceMissing { resource, .. } => u64::from(resource),
+            Refusal::DraftOut { draft } | Refusal::NoSuchDraft { draft } => draft.into(),
+            Refusal::PriceMissing { resource, .. } | Refusal::NothingToStrike { resource, .. } =>
+                resource.into(),
             Refusal::NoDemand { pot } => pot.number(),
-            Refusal::NothingToStrike { resource, .. } => u64::from(resource),
         }
     }
 
@@ -65,15 +63,14 @@ impl Refusal {
     {
         match *self {
             Refusal::TooFewRows { there, .. } => there as u64,
-            Refusal::NotRegistered { kind, .. } => kind.number(),
-            Refusal::InUse { kind, .. } => kind.number(),
-            Refusal::PriceMissing { hour, .. } => u64::from(hour),
-            Refusal::NothingToStrike { hour, .. } => u64::from(hour),
-            Refusal::FieldOutOfRange { .. } => 0,
-            Refusal::Full { .. } => 0,
-            Refusal::DraftOut { .. } => 0,
-            Refusal::NoSuchDraft { .. } => 0,
-            Refusal::NoDemand { .. } => 0,
+            Refusal::NotRegistered { kind, .. } | Refusal::InUse { kind, .. } => kind.number(),
+            Refusal::PriceMissing { hour, .. } | Refusal::NothingToStrike { hour, .. } =>
+                hour.into(),
+            Refusal::FieldOutOfRange { .. }
+            | Refusal::Full { .. }
+            | Refusal::DraftOut { .. }
+            | Refusal::NoSuchDraft { .. }
+            | Refusal::NoDemand { .. } => 0,
         }
     }
 }
