@@ -1,5 +1,6 @@
 -- Two values that differ only in the proof of their bounds are one value.
-use Rattle.std.proofs.Common.{◌≡◌, ℕ, ◌≤◌, Bool, ℤ, refl, ap, suc-le-suc, zero-le}
+use Rattle.std.proofs.Common.{◌≡◌, ℕ, ◌≤◌, Bool, ℤ, ap}
+use Rattle.std.proofs.Math.Bridge.{le_prop}
 use mathlib.Core.Path.{path_j}
 use Rattle.hours.specs.declared.records.HourRecord.{HourRecord}
 use Rattle.hours.specs.declared.records.Price.{Price}
@@ -8,8 +9,7 @@ use Rattle.hours.specs.Bounds.{HourBounds, PriceBounds, LimitBounds}
 
 -- an order has one proof
 pub le_once : {a b : ℕ} (p q : a ≤ b) → p ≡ q
-le_once zero-le zero-le = refl
-le_once (suc-le-suc p) (suc-le-suc q) = ap suc-le-suc (le_once p q)
+le_once = le_prop
 
 pub same_made : {N X : Type 0} {P : N → Type 0} → ((n : N) (p q : P n) → p ≡ q) → (build : (n : N) → P n → X) (n m : N) (p : P n) (q : P m) → n ≡ m → build n p ≡ build m q
 same_made {N} {X} {P} once build n m p q e = path_j (λ m e. (q : P m) → build n p ≡ build m q) (λ q. ap (build n) (once n p q)) e q

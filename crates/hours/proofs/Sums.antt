@@ -1,6 +1,11 @@
 -- Sums over the hours of a day, hour by hour.
-use Rattle.std.proofs.Common.{◌≡◌, ℕ, zero, suc, ◌+◌, ◌*◌, ◌^◌, ◌<◌, ◌≤◌, ℤ, pos, negsuc, ◌+ℤ◌, nat_abs, List, length, get_or, take, sym, refl, ap, ◌∙◌, subst, mul-one, mul-add, add-one, arith, w64, SFits, to_z, of_z}
+use Rattle.std.proofs.Common.{◌≡◌, ℕ, zero, suc, ◌+◌, ◌*◌, ◌^◌, ◌<◌, ◌≤◌, ℤ, pos, negsuc, ◌+ℤ◌, nat_abs, Option, List, map, length, get_or, take, sym, refl, ap, ◌∙◌, subst, mul-one, mul-add, add-one, arith, w64, SFits, to_z, of_z}
+use Rattle.std.specs.Bool.{⊤}
 use Rattle.std.specs.Int.{saturate_to_bits}
+use Rattle.std.specs.Iterator.{Drains}
+use Rattle.std.specs.Iterator.Runs.{EachRunFrom}
+use Rattle.std.proofs.lemmas.Iterator.{YieldsList}
+use Rattle.std.proofs.lemmas.Iterator.Consumers.{sum_by_from_yields_List, fits_by_from_yields_list}
 use Rattle.std.specs.List.{fold, sum_by}
 use Rattle.std.proofs.lemmas.List.{take_all}
 use Rattle.std.proofs.lemmas.List.Sums.{fold_more, sum_by_more}
@@ -87,8 +92,9 @@ module _ {X : Type 0} (g : X → ℤ) (f : ℕ → ℤ) (n : ℕ) (xs : List X) 
   pub held : Summed f n (held_sum g xs) 24
   held = subst (λ ys. Summed f n (held_sum g ys) 24) (take_all 24 xs (omega arith)) (held_so_far 24 (omega arith))
 
--- .. and one of quantities
-module _ {X : Type 0} (g : X → ℕ) (n : ℕ) (xs : List X) (d : X) (day : length xs ≡ 24) (small : (x : X) → g x ≤ n) where
+-- .. and one of quantities, as `sum` adds up what a chain s gives
+module _ {X S : Type 0} {steps : S → Option ℕ → S → Type 0} {s : S} (g : X → ℕ) (n : ℕ) (xs : List X) (d : X)
+    (day : length xs ≡ 24) (small : (x : X) → g x ≤ n) (road : YieldsList steps (λ x. x) s (map g xs)) where
   added_so_far : (i : ℕ) → i ≤ 24 → Added (λ k. g (get_or xs k d)) n (sum_by g (take i xs)) i
   unfolding add_hours
   added_so_far zero h = (refl, omega arith)
@@ -96,5 +102,11 @@ module _ {X : Type 0} (g : X → ℕ) (n : ℕ) (xs : List X) (d : X) (day : len
       subst (λ k. Added (λ k. g (get_or xs k d)) n (sum_by g (take k xs)) k) (add-one i)
       (subst (λ m. Added (λ k. g (get_or xs k d)) n m (i + 1)) (sym (sum_by_more g xs i d (omega arith))) (add-more _ n _ _ i refl (small _) (added_so_far i (omega arith))))
 
-  pub added : Added (λ k. g (get_or xs k d)) n (sum_by g xs) 24
+  added : Added (λ k. g (get_or xs k d)) n (sum_by g xs) 24
   added = subst (λ ys. Added (λ k. g (get_or xs k d)) n (sum_by g ys) 24) (take_all 24 xs (omega arith)) (added_so_far 24 (omega arith))
+
+  pub added_fits : (top : ℕ) → n * 24 < top → EachRunFrom steps s (λ p. fold (λ a x. a + x) 0 p.items < top)
+  added_fits top room = fits_by_from_yields_list g xs s top road (omega (arith, added.1))
+
+  pub added_day : (r : ℕ) → ((ys : List ℕ) × (⊤ → Drains steps s ys) × (r ≡ fold (λ a x. a + x) 0 ys)) → Added (λ k. g (get_or xs k d)) n r 24
+  added_day r ran = subst (λ m. Added (λ k. g (get_or xs k d)) n m 24) (sym (sum_by_from_yields_List g xs s r ran road)) added

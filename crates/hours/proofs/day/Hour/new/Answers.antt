@@ -1,16 +1,9 @@
 use Rattle.std.proofs.Common.{nat_abs, refl}
-use Rattle.std.proofs.lemmas.Result.{err_from_is_err_and}
 use Rattle.std.proofs.lemmas.Int.{to_z-of_z}
 use Rattle.hours.specs.Days.{hour_fields, hour_made, hour_bounds}
-use Rattle.hours.proofs.Ranges.{fit_too, made-is, refused-is}
+use Rattle.hours.proofs.Ranges.{fit_too, made-is}
 use Rattle.hours.proofs.Made.{same_number}
 use Rattle.hours.proofs.day.Hour.new.Goals as goal
-
-pub returns-in_err-check : goal.returns-in_err-check
-returns-in_err-check c =
-    let hour = c.args.hour in let f = c.ranges.hour in
-    let p = err_from_is_err_and c.from_residual.result c.from_residual.ensures.1 in
-    refused-is _ (hour_fields hour) (simp to_z-of_z) (hour_made hour) _ _ _ p.1 p.2 c.in_err-check.ensures.cases
 
 pub returns : goal.returns
 returns c =
