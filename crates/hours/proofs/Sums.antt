@@ -12,7 +12,7 @@ use Rattle.std.proofs.lemmas.List.Sums.{fold_more, sum_by_more}
 use Rattle.std.proofs.lemmas.Nat.{mul-le}
 use Rattle.std.proofs.lemmas.Int.{to_z-of_z}
 use Rattle.money.proofs.Products.{abs-add-le}
-use Rattle.hours.specs.Days.{over_hours, over_day, add_hours, add_day}
+use Rattle.hours.specs.Days.{over_hours, over_day, add_hours}
 
 -- the first i hours are added up, each within n
 abbrev pub Summed : (ℕ → ℤ) → ℕ → ℤ → ℕ → Type 0
@@ -56,9 +56,6 @@ add-more f n total x i is small inv =
     let next = ap (add_hours f) (add-one i) in
     let room : n * (i + 1) ≡ n * i + n = mul-add n i 1 ∙ ap (λ m. n * i + m) (mul-one n) in
     (cc, omega arith)
-
-pub add-all : (f : ℕ → ℕ) (n total i : ℕ) → i ≡ 24 → Added f n total i → (total ≡ add_day f) × (total ≤ n * 24)
-add-all f n total i e inv = (inv.0 ∙ ap (add_hours f) e, subst (λ k. total ≤ n * k) e inv.1)
 
 -- A sum over a list with one item an hour, each within n: a sum that is held at the ends of i64 ..
 held-within : (z : ℤ) → nat_abs z ≤ 2 ^ 60 → saturate_to_bits 63 z ≡ z

@@ -16,5 +16,5 @@ pub returns : goal.returns
 returns c =
     let slots = c.args.self.now.slots in
     let all = added_day (λ s. hour_demand (counted s)) 100000 slots None (omega arith) (λ s. demand-size (counted s))
-        (YieldsList-from_map _ _ (YieldsList-from_slice slots cc) c.map.ensures.closure (λ x r q k. search (rules, tests))) c.sum.result c.sum.ensures.ran in
+    (YieldsList-from_map _ _ (YieldsList-from_slice slots cc) c.map.ensures.closure (λ x r q k. search (rules, tests))) c.sum.result c.sum.ensures.ran in
     record { value = all.0; bound = all.1 }
