@@ -1,5 +1,6 @@
 pub mod Laws
-mod Scans
+mod Keys
+mod Words
 mod Positions
 mod Replies
 mod Writes

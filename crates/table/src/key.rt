@@ -1,14 +1,11 @@
-ghost use Rattle.std.specs.Prelude.{◌≡◌, ℕ, ◌==◌, nat_lt};
+ghost use Rattle.std.specs.Prelude.{◌≡◌, ℕ, refl};
+ghost use Rattle.std.specs.Ordering.{nat_cmp};
 
-// A key with a total order. Its rank is a number that orders keys alike; code compares keys and never makes the number.
-pub trait Rank {
+// A key's rank is a number that orders keys as `cmp` does. Code compares keys and never makes the number.
+pub trait Rank: Ord {
     ghost rank: { Self → ℕ };
 
-    fn same(&self, other: &Self) -> bool
-        ensures { result ≡ (rank self.now == rank other.now) };
-
-    fn below(&self, other: &Self) -> bool
-        ensures { result ≡ nat_lt (rank self.now) (rank other.now) };
+    ghost orders: { (a b : Self) → Self.cmp a b ≡ nat_cmp (rank a) (rank b) };
 }
 
 // What a table holds. The ghost member is the rank of an entry's key.
@@ -24,11 +21,5 @@ pub trait Keyed {
 impl Rank for u16 {
     ghost rank = { λ n. n };
 
-    fn same(&self, other: &u16) -> bool {
-        *self == *other
-    }
-
-    fn below(&self, other: &u16) -> bool {
-        *self < *other
-    }
+    ghost orders = { λ a b. refl };
 }

@@ -6,12 +6,7 @@ use crate::key::{Keyed, Rank};
 pub(crate) fn position<E: Keyed>(rows: &[E], wanted: E::Key) -> Option<usize>
     ensures { result ≡ position E.key (E.Key.Rank.rank wanted) rows.now }
 {
-    for (i, row) in rows.iter().enumerate() {
-        if row.key().same(&wanted) {
-            return Some(i);
-        }
-    }
-    None
+    rows.iter().position(|row| row.key() == wanted)
 }
 
 // Where an entry goes: before the first whose key is not below its own.
@@ -19,12 +14,8 @@ pub(crate) fn place<E: Keyed + Copy>(rows: &[E], item: E) -> usize
     ensures within { result ≤ length rows.now }
     ensures splits { inserted E.key item rows.now ≡ take result rows.now ++ (item ∷ drop result rows.now) }
 {
-    for (i, row) in rows.iter().enumerate() {
-        if !row.key().below(&item.key()) {
-            return i;
-        }
-    }
-    rows.len()
+    let key = item.key();
+    rows.iter().take_while(|row| row.key() < key).count()
 }
 
 // The slots from `at` on, up to `len`, move up by one.
@@ -53,13 +44,9 @@ pub(crate) fn put_front<E: Copy>(slots: &mut [E], rows: &[E])
 pub(crate) fn same_keys<E: Keyed>(rows: &[E], others: &[E]) -> bool
     ensures { result ≡ same_keys E.key rows.now others.now }
 {
-    if rows.len() != others.len() {
-        return false;
-    }
-    for i in 0..rows.len() {
-        if !rows[i].key().same(&others[i].key()) {
-            return false;
-        }
-    }
-    true
+    rows.len() == others.len()
+        && rows
+            .iter()
+            .zip(others)
+            .all(|(row, other)| row.key() == other.key())
 }

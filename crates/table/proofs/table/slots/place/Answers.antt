@@ -1,17 +1,20 @@
-use Rattle.std.proofs.Common.{arith}
-use Rattle.table.proofs.Scans.{place-more, place_here, place_end}
+use Rattle.std.proofs.Common.{◌≡◌, Bool, ltb, length, take, rules, tests, arith, sym, ap, ◌∙◌}
+use Rattle.std.specs.List as lists
+use Rattle.std.proofs.lemmas.List.Folds.{length-prefix_len}
+use Rattle.std.proofs.lemmas.List.Sums.{prefix_len-le-length}
+use Rattle.std.proofs.lemmas.Iterator.{YieldsList-from_slice}
+use Rattle.std.proofs.lemmas.Iterator.Consumers.{count_from_yields_List}
+use Rattle.std.proofs.lemmas.Iterator.Search.{YieldsList-from_take_while}
+use Rattle.table.proofs.Keys.{below_ranks}
+use Rattle.table.proofs.Words.{inserted-is}
 use Rattle.table.proofs.table.slots.place.Goals as goal
 
-pub returns-then-not-below : goal.returns-then-not-below
-returns-then-not-below g c = record {
-  within = omega arith;
-  splits =
-      place_here g.E.Keyed.key c.args.item c.args.rows.now c.loop-i.i _ _ _ c.loop-i-test.true c.index-rows-i.is c.key.ensures c.key-in-loop-i.ensures c.if-not-below.ensures c.loop-i.invariant;
-}
-
-pub loop-i-preserved : goal.loop-i-preserved
-loop-i-preserved g c =
-    place-more g.E.Keyed.key c.args.item c.args.rows.now c.loop-i.i _ _ _ c.loop-i-test.true c.index-rows-i.is c.key.ensures c.key-in-loop-i.ensures c.if-not-below.ensures c.loop-i.invariant
-
 pub returns : goal.returns
-returns g c = record { within = omega arith; splits = place_end g.E.Keyed.key c.args.item c.args.rows.now c.loop-i.i (omega arith) c.loop-i.invariant }
+returns g c =
+    let key = g.E.Keyed.key in
+    let item = c.args.item in
+    let rows = c.args.rows.now in
+    let p : g.row.E.Denot → Bool = λ x. ltb (key x) (key item) in
+    let below = below_ranks g.E.Key.Rank.rank g.E.Key.Ord.cmp g.met.E.Key.Rank.orders g.E.Key.PartialOrd.partial_cmp g.met.E.Key.Ord.matches_partial_cmp in
+    let n : c.count.result ≡ lists.prefix_len p rows = count_from_yields_List c.take_while.result _ c.count.ensures.ran (YieldsList-from_take_while _ p (YieldsList-from_slice rows cc) c.take_while.ensures.closure c.take_while.ensures.done (λ x b q k. search (rules, tests, below))) ∙ length-prefix_len p rows in
+    record { within = omega (arith, n, prefix_len-le-length p rows); splits = inserted-is key item rows ∙ ap (λ i. lists.insert rows i item) (sym n) }

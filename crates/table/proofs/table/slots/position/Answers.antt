@@ -1,17 +1,11 @@
-use Rattle.std.proofs.Common.{true, false, sym, ◌∙◌}
-use Rattle.std.proofs.lemmas.List.{at_drop_all}
-use Rattle.table.specs.Entries.{position_from}
-use Rattle.table.proofs.Scans.{position-more}
+use Rattle.std.proofs.Common.{eqb, rules, tests, arith, ◌∙◌}
+use Rattle.std.proofs.lemmas.Iterator.{YieldsList-from_slice}
+use Rattle.std.proofs.lemmas.Iterator.Search.{position_from_yields_List}
+use Rattle.table.proofs.Keys.{equal_ranks}
+use Rattle.table.proofs.Words.{position-is}
 use Rattle.table.proofs.table.slots.position.Goals as goal
-
-pub returns-then-same : goal.returns-then-same
-returns-then-same g c =
-    sym (position-more g.E.Keyed.key c.args.rows.now c.loop-i.i _ true _ _ c.loop-i-test.true c.index-rows-i.is c.key.ensures c.if-same.ensures) ∙ c.loop-i.invariant
-
-pub loop-i-preserved : goal.loop-i-preserved
-loop-i-preserved g c =
-    sym (position-more g.E.Keyed.key c.args.rows.now c.loop-i.i _ false _ _ c.loop-i-test.true c.index-rows-i.is c.key.ensures c.if-same.ensures) ∙ c.loop-i.invariant
 
 pub returns : goal.returns
 returns g c =
-    sym (at_drop_all (position_from g.E.Keyed.key (g.E.Key.Rank.rank c.args.wanted) c.loop-i.i) c.args.rows.now c.loop-i.i c.loop-i-test.false) ∙ c.loop-i.invariant
+    let same = equal_ranks g.E.Key.Rank.rank g.E.Key.Ord.cmp g.met.E.Key.Rank.orders g.E.Key.PartialEq.eq g.met.E.Key.Ord.matches_eq in
+    position_from_yields_List (λ x. eqb (g.E.Keyed.key x) (g.E.Key.Rank.rank c.args.wanted)) _ _ _ c.position.ensures.ran (YieldsList-from_slice c.args.rows.now cc) (λ x b q k. search (rules, tests, same)) ∙ position-is g.E.Keyed.key _ c.args.rows.now
