@@ -1,5 +1,5 @@
 -- The words of specs/ by the library's words for the same lists.
-use Rattle.std.proofs.Common.{◌≡◌, ℕ, suc, ◌+◌, ◌&&◌, eqb, ltb, cond, List, [], ◌∷◌, length, set, Some, None, Option, refl, sym, ap, ◌∙◌, arith}
+use Rattle.std.proofs.Common.{◌≡◌, ℕ, suc, ◌+◌, ◌&&◌, eqb, ltb, cond, List, [], ◌∷◌, length, set, Some, refl, sym, ap, ◌∙◌, arith}
 use Rattle.std.specs.List as lists
 use Rattle.std.proofs.lemmas.Iterator.Adapters.{position_from-zero}
 use Rattle.std.proofs.lemmas.Bool.{cond_both, cond-true, cond-false}

@@ -3,7 +3,7 @@ mod reads;
 mod slots;
 
 // Why an entry is not inserted.
-#[derive(Clone, Copy)]
+#[derive(Clone, Copy, Debug, PartialEq, Eq)]
 pub enum Refused {
     InUse,
     Full,

@@ -36,13 +36,11 @@ impl<'a, E: Keyed + Copy> Table<'a, E> {
         ensures keeps { Rising E.key (entries self.old) → Rising E.key (entries self.new) }
         ensures room { room self.new ≡ room self.old }
     {
-        match self.find(item.key()) {
-            Some(at) => {
-                put(self.slots, at, item);
-                true
-            }
-            None => false,
-        }
+        let Some(at) = self.find(item.key()) else {
+            return false;
+        };
+        put(self.slots, at, item);
+        true
     }
 
     // All entries are exchanged for others that have the same keys.
@@ -53,8 +51,7 @@ impl<'a, E: Keyed + Copy> Table<'a, E> {
         ensures keeps { Rising E.key (entries self.old) → Rising E.key (entries self.new) }
         ensures room { room self.new ≡ room self.old }
     {
-        let held = self.all();
-        if !same_keys(others, held) {
+        if !same_keys(others, self.all()) {
             return false;
         }
         put_front(self.slots, others);

@@ -4,7 +4,6 @@ ghost use Rattle.table.specs.Tables.{entries, room};
 
 use crate::key::Keyed;
 use crate::table::Table;
-use crate::table::slots::position;
 
 impl<'a, E> Table<'a, E> {
     // An empty table, whatever the slots hold.
@@ -42,9 +41,7 @@ impl<'a, E> Table<'a, E> {
     pub fn all(&self) -> &[E]
         ensures { result.now ≡ entries self.now }
     {
-        let len = self.len();
-        let slots = &*self.slots;
-        &slots[0..len]
+        &self.slots[..self.len()]
     }
 }
 
@@ -52,16 +49,12 @@ impl<'a, E: Keyed + Copy> Table<'a, E> {
     pub fn find(&self, wanted: E::Key) -> Option<usize>
         ensures { result ≡ position E.key (E.Key.Rank.rank wanted) (entries self.now) }
     {
-        position(self.all(), wanted)
+        self.all().iter().position(|row| row.key() == wanted)
     }
 
     pub fn get(&self, wanted: E::Key) -> Option<E>
         ensures { result ≡ lookup E.key (E.Key.Rank.rank wanted) (entries self.now) }
     {
-        let rows = self.all();
-        match position(rows, wanted) {
-            Some(at) => Some(rows[at]),
-            None => None,
-        }
+        self.all().iter().find(|row| row.key() == wanted).copied()
     }
 }

@@ -1,13 +1,7 @@
 ghost use Rattle.std.specs.Prelude.{◌≡◌, ◌+◌, ◌<◌, ◌≤◌, ◌∷◌, ◌++◌, length, take, drop, slice_set};
-ghost use Rattle.table.specs.Entries.{position, inserted, same_keys};
+ghost use Rattle.table.specs.Entries.{inserted, same_keys};
 
 use crate::key::{Keyed, Rank};
-
-pub(crate) fn position<E: Keyed>(rows: &[E], wanted: E::Key) -> Option<usize>
-    ensures { result ≡ position E.key (E.Key.Rank.rank wanted) rows.now }
-{
-    rows.iter().position(|row| row.key() == wanted)
-}
 
 // Where an entry goes: before the first whose key is not below its own.
 pub(crate) fn place<E: Keyed + Copy>(rows: &[E], item: E) -> usize
@@ -27,6 +21,8 @@ pub(crate) fn insert_at<E: Copy>(slots: &mut [E], at: usize, len: usize, item: E
     slots[at] = item;
 }
 
+// `put` and `put_front` take the slots alone: no proof was found where a table writes them through its own field, since
+// there a proof knows neither that the slots fit in memory nor what a part of them holds once its loan ends.
 pub(crate) fn put<E: Copy>(slots: &mut [E], at: usize, item: E)
     requires { at < length slots.old }
     ensures { slots.new ≡ slice_set slots.old at item }
@@ -38,7 +34,7 @@ pub(crate) fn put_front<E: Copy>(slots: &mut [E], rows: &[E])
     requires { length rows.now ≤ length slots.old }
     ensures { slots.new ≡ rows.now ++ drop (length rows.now) slots.old }
 {
-    slots[0..rows.len()].copy_from_slice(rows);
+    slots[..rows.len()].copy_from_slice(rows);
 }
 
 pub(crate) fn same_keys<E: Keyed>(rows: &[E], others: &[E]) -> bool

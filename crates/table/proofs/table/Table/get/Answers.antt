@@ -1,20 +1,17 @@
-use Rattle.std.proofs.Common.{Some, ap, ◌∙◌, arith}
+use Rattle.std.proofs.Common.{eqb, rules, tests, sym, ap, ◌∙◌}
+use Rattle.std.proofs.lemmas.Iterator.{YieldsList-from_slice}
+use Rattle.std.proofs.lemmas.Iterator.Search.{find_from_yields_List}
 use Rattle.table.specs.Entries.{lookup}
-use Rattle.table.proofs.Positions.{found_within, found-looks, missing-looks}
+use Rattle.table.proofs.Keys.{equal_ranks}
+use Rattle.table.proofs.Words.{lookup-is}
 use Rattle.table.proofs.table.Table.get.Goals as goal
 
-pub bounds-rows-at : goal.bounds-rows-at
-bounds-rows-at g c = omega (arith, found_within g.E.Keyed.key (g.E.Key.Rank.rank c.args.wanted) c.in-Some.at c.all-rows.result.now c.in-Some.ensures)
-
-pub offset_bounds-rows-at : goal.offset_bounds-rows-at
-offset_bounds-rows-at g c = omega (arith, bounds-rows-at g c)
-
-pub returns-in-Some : goal.returns-in-Some
-returns-in-Some g c =
-    ap Some c.index-rows-at.is ∙ found-looks g.E.Keyed.key (g.E.Key.Rank.rank c.args.wanted) c.in-Some.at c.all-rows.result.now c.index-rows-at.result c.in-Some.ensures
-    ∙ ap (lookup g.E.Keyed.key (g.E.Key.Rank.rank c.args.wanted)) c.all-rows.ensures
-
-pub returns-in-None : goal.returns-in-None
-returns-in-None g c =
-    missing-looks g.E.Keyed.key (g.E.Key.Rank.rank c.args.wanted) c.all-rows.result.now c.in-None.ensures
-    ∙ ap (lookup g.E.Keyed.key (g.E.Key.Rank.rank c.args.wanted)) c.all-rows.ensures
+pub returns : goal.returns
+returns g c =
+    let key = g.E.Keyed.key in
+    let k = g.E.Key.Rank.rank c.args.wanted in
+    let xs = c.all.result.now in
+    let same = equal_ranks g.E.Key.Rank.rank g.E.Key.Ord.cmp g.met.E.Key.Rank.orders g.E.Key.PartialEq.eq g.met.E.Key.Ord.matches_eq in
+    c.copied.ensures
+    ∙ find_from_yields_List (λ x. eqb (key x) k) _ _ c.find.result c.find.ensures.ran (YieldsList-from_slice xs cc) (λ x b q h. search (rules, tests, same))
+    ∙ sym (lookup-is key k xs) ∙ ap (lookup key k) c.all.ensures

@@ -9,11 +9,11 @@ use Rattle.table.proofs.table.Table.overwrite.Goals as goal
 pub put_front-requires : goal.put_front-requires
 put_front-requires g c =
     let t = c.args.self.now in
-    omega (arith, size-from_same g.E.Keyed.key c.args.others.now c.all-held.result.now (sym c.if-not-same_keys.ensures), ap length c.all-held.ensures, length-take (min t.len (room t)) t.slots.now)
+    omega (arith, size-from_same g.E.Keyed.key c.args.others.now c.all.result.now (sym c.if-not-same_keys.ensures), ap length c.all.ensures, length-take (min t.len (room t)) t.slots.now)
 
 pub returns-then-not-same_keys : goal.returns-then-not-same_keys
 returns-then-not-same_keys g c =
-    let reply = c.if-not-same_keys.ensures ∙ ap (same_keys g.E.Keyed.key c.args.others.now) c.all-held.ensures in
+    let reply = c.if-not-same_keys.ensures ∙ ap (same_keys g.E.Keyed.key c.args.others.now) c.all.ensures in
     record { reply = reply; after = sym (cond-false _ _ _ (sym reply)); keys = refl; keeps = λ h. h; room = refl }
 
 pub returns : goal.returns
@@ -21,7 +21,7 @@ returns g c =
     let key = g.E.Keyed.key in
     let others = c.args.others.now in
     let t = c.args.self.now in
-    let reply = c.if-not-same_keys.ensures ∙ ap (same_keys key others) c.all-held.ensures in
+    let reply = c.if-not-same_keys.ensures ∙ ap (same_keys key others) c.all.ensures in
     let size = size-from_same key others (entries t) (sym reply) in
     let same = ap (min t.limit) c.put_front.auto.slots in
     let after =

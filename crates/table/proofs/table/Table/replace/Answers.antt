@@ -11,8 +11,8 @@ put-requires g c =
     let t = c.args.self.now in
     omega (arith, found_within g.E.Keyed.key _ c.in-Some.at (entries t) c.in-Some.ensures, length-take (min t.len (room t)) t.slots.now)
 
-pub returns-in-Some : goal.returns-in-Some
-returns-in-Some g c =
+pub returns : goal.returns
+returns g c =
     let key = g.E.Keyed.key in
     let e = c.args.item in
     let t = c.args.self.now in
@@ -31,10 +31,10 @@ returns-in-Some g c =
       room = same;
     }
 
-pub returns-in-None : goal.returns-in-None
-returns-in-None g c =
+pub returns-in_default : goal.returns-in_default
+returns-in_default g c =
     let key = g.E.Keyed.key in
     let xs = entries c.args.self.now in
-    let reply = told key _ None c.args.item _ xs refl c.in-None.ensures c.key.ensures in
+    let reply = told key _ None c.args.item _ xs refl (sym c.in_default.is ∙ c.find.ensures) c.key.ensures in
     let after = missing-stays key c.args.item xs reply in
     record { reply = reply; after = after; lookups = λ k. refl; keys = refl; keeps = λ h. h; room = refl }

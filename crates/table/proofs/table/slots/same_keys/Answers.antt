@@ -1,5 +1,4 @@
-use Rattle.std.proofs.Common.{◌≡◌, Bool, true, ◌&&◌, eqb, rules, tests, arith, length, sym, ap, ◌∙◌}
-use Rattle.std.specs.List as lists
+use Rattle.std.proofs.Common.{◌≡◌, Bool, true, ◌&&◌, eqb, rules, tests, arith, ◌∙◌}
 use Rattle.std.proofs.lemmas.Iterator.{YieldsList-from_slice, YieldsList-from_zip}
 use Rattle.std.proofs.lemmas.Iterator.Search.{all_from_yields_List}
 use Rattle.std.proofs.lemmas.Bool.Decides.{nat_tests}
