@@ -1,5 +1,6 @@
-use Rattle.std.proofs.Common.{◌+◌, min, map, length, take, is_ok, sym, refl, ap, ◌∙◌, arith}
+use Rattle.std.proofs.Common.{◌≡◌, ◌+◌, true, false, min, map, length, take, is_some, is_ok, sym, ap, ◌∙◌, arith}
 use Rattle.std.proofs.lemmas.Bool.{eqb-false}
+use Rattle.std.proofs.lemmas.Bool.Decides.{nat_tests}
 use Rattle.table.specs.Entries.{lookup, rises}
 use Rattle.table.specs.Tables.{entries, room, lookup_after}
 use Rattle.table.proofs.Laws.{lookup-after, rising_after}
@@ -8,40 +9,44 @@ use Rattle.table.proofs.Replies.{in_use, full, granted, leaves}
 use Rattle.table.proofs.Writes.{grown}
 use Rattle.table.proofs.table.Table.insert.Goals as goal
 
-pub returns-then-is_some : goal.returns-then-is_some
-returns-then-is_some g c =
-    let key = g.E.Keyed.key in
-    let t = c.args.self.now in
-    let used = told key _ c.find.result c.args.item _ (entries t) c.if-is_some.ensures c.find.ensures c.key.ensures in
-    let reply = in_use key c.args.item (entries t) (room t) used in
-    record { reply = reply; after = leaves key c.args.item (entries t) (room t) _ reply; lookups = λ k. refl; keeps = λ h. h; room = refl }
+pub returns-then-is_some-clause-reply : goal.returns-then-is_some-clause-reply
+returns-then-is_some-clause-reply g c =
+    let used = told g.E.Keyed.key _ c.find.result c.args.item _ (entries c.args.self.now) c.if-is_some.ensures c.find.ensures c.key.ensures in
+    grind (arith, nat_tests)
 
-pub returns-then-is_full : goal.returns-then-is_full
-returns-then-is_full g c =
-    let key = g.E.Keyed.key in
-    let t = c.args.self.now in
-    let free = told key _ c.find.result c.args.item _ (entries t) c.if-is_some.ensures c.find.ensures c.key.ensures in
-    let reply = full key c.args.item (entries t) (room t) free c.if-is_full.ensures in
-    record { reply = reply; after = leaves key c.args.item (entries t) (room t) _ reply; lookups = λ k. refl; keeps = λ h. h; room = refl }
+pub returns-then-is_some-clause-after : goal.returns-then-is_some-clause-after
+returns-then-is_some-clause-after g c =
+    leaves g.E.Keyed.key c.args.item (entries c.args.self.now) (room c.args.self.now) _ (returns-then-is_some-clause-reply g c)
 
-pub returns : goal.returns
-returns g c =
+pub returns-then-is_full-clause-reply : goal.returns-then-is_full-clause-reply
+returns-then-is_full-clause-reply g c =
+    let free = told g.E.Keyed.key _ c.find.result c.args.item _ (entries c.args.self.now) c.if-is_some.ensures c.find.ensures c.key.ensures in
+    grind (arith, nat_tests)
+
+pub returns-clause-reply : goal.returns-clause-reply
+returns-clause-reply g c =
+    let free = told g.E.Keyed.key _ c.find.result c.args.item _ (entries c.args.self.now) c.if-is_some.ensures c.find.ensures c.key.ensures in
+    grind (arith, nat_tests)
+
+pub returns-clause-after : goal.returns-clause-after
+returns-clause-after g c =
     let key = g.E.Keyed.key in
     let e = c.args.item in
     let t = c.args.self.now in
-    let free = told key _ c.find.result e _ (entries t) c.if-is_some.ensures c.find.ensures c.key.ensures in
-    let reply = granted key e (entries t) (room t) free c.if-is_full.ensures in
     let short = eqb-false (length (entries t)) (room t) (sym c.if-is_full.ensures) in
-    let same = ap (min t.limit) c.insert_at.auto.slots in
-    let grows =
-    ap (λ n. take (min (c.len-len.result + 1) n) c.insert_at.new.slots) same
+    ap (λ n. take (min (c.len-len.result + 1) (min t.limit n)) c.insert_at.new.slots) c.insert_at.auto.slots
     ∙ grown key e t.slots.now c.insert_at.new.slots c.all.result.now (min t.len (room t)) c.len-len.result c.place-at.result (room t)
-    (omega arith) c.len-len.ensures.reply (omega arith) c.all.ensures c.place-at.ensures.splits c.insert_at.ensures in
-    let after = grows ∙ leaves key e (entries t) (room t) _ reply in
-    record {
-      reply = reply;
-      after = after;
-      lookups = λ k. ap (lookup key k) after ∙ lookup-after key e (entries t) (room t) k ∙ ap (λ r. lookup_after key (is_ok r) e (entries t) k) (sym reply);
-      keeps = λ h. ap (λ xs. rises (map key xs)) after ∙ rising_after key e (entries t) (room t) h;
-      room = same;
-    }
+    (omega arith) c.len-len.ensures.reply (omega arith) c.all.ensures c.place-at.ensures.splits c.insert_at.ensures
+    ∙ leaves key e (entries t) (room t) _ (returns-clause-reply g c)
+
+pub returns-clause-lookups : goal.returns-clause-lookups
+returns-clause-lookups g c k =
+    let key = g.E.Keyed.key in
+    let e = c.args.item in
+    let t = c.args.self.now in
+    ap (lookup key k) (returns-clause-after g c) ∙ lookup-after key e (entries t) (room t) k ∙ ap (λ r. lookup_after key (is_ok r) e (entries t) k) (sym (returns-clause-reply g c))
+
+pub returns-clause-keeps : goal.returns-clause-keeps
+returns-clause-keeps g c h =
+    let t = c.args.self.now in
+    ap (λ xs. rises (map g.E.Keyed.key xs)) (returns-clause-after g c) ∙ rising_after g.E.Keyed.key c.args.item (entries t) (room t) h

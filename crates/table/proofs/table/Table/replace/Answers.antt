@@ -1,4 +1,4 @@
-use Rattle.std.proofs.Common.{min, map, take, None, sym, refl, ap, ◌∙◌, arith}
+use Rattle.std.proofs.Common.{min, map, take, is_some, sym, refl, ap, ◌∙◌, arith}
 use Rattle.std.proofs.lemmas.List.{length-take}
 use Rattle.table.specs.Entries.{lookup, rises}
 use Rattle.table.specs.Tables.{entries, room, lookup_after}
@@ -6,35 +6,35 @@ use Rattle.table.proofs.Laws.{lookup-replaced, keys_replaced}
 use Rattle.table.proofs.Positions.{found_within, found-sets, told, missing-stays}
 use Rattle.table.proofs.table.Table.replace.Goals as goal
 
+pub returns-in_default-clause-reply : goal.returns-in_default-clause-reply
+returns-in_default-clause-reply g c =
+    told g.E.Keyed.key _ c.find.result c.args.item _ (entries c.args.self.now) (ap is_some (sym c.in_default.is)) c.find.ensures c.key.ensures
+
+pub returns-in_default-clause-after : goal.returns-in_default-clause-after
+returns-in_default-clause-after g c = missing-stays g.E.Keyed.key c.args.item (entries c.args.self.now) (returns-in_default-clause-reply g c)
+
 pub put-requires : goal.put-requires
 put-requires g c =
     let t = c.args.self.now in
     omega (arith, found_within g.E.Keyed.key _ c.in-Some.at (entries t) c.in-Some.ensures, length-take (min t.len (room t)) t.slots.now)
 
-pub returns : goal.returns
-returns g c =
-    let key = g.E.Keyed.key in
-    let e = c.args.item in
-    let t = c.args.self.now in
-    let reply = told key _ _ e _ (entries t) refl c.in-Some.ensures c.key.ensures in
-    let same = ap (min t.limit) c.put.auto.slots in
-    let after =
-    ap (λ n. take (min t.len n) c.put.new.slots) same ∙ ap (take (min t.len (room t))) c.put.ensures
-    ∙ found-sets key e _ c.in-Some.at (min t.len (room t)) t.slots.now c.key.ensures c.in-Some.ensures in
-    let keys = ap (map key) after ∙ keys_replaced key e (entries t) in
-    record {
-      reply = reply;
-      after = after;
-      lookups = λ k. ap (lookup key k) after ∙ lookup-replaced key e (entries t) k ∙ ap (λ b. lookup_after key b e (entries t) k) (sym reply);
-      keys = keys;
-      keeps = λ h. ap rises keys ∙ h;
-      room = same;
-    }
+pub returns-clause-reply : goal.returns-clause-reply
+returns-clause-reply g c = told g.E.Keyed.key _ _ c.args.item _ (entries c.args.self.now) refl c.in-Some.ensures c.key.ensures
 
-pub returns-in_default : goal.returns-in_default
-returns-in_default g c =
+pub returns-clause-after : goal.returns-clause-after
+returns-clause-after g c =
+    let t = c.args.self.now in
+    ap (λ n. take (min t.len (min t.limit n)) c.put.new.slots) c.put.auto.slots ∙ ap (take (min t.len (room t))) c.put.ensures
+    ∙ found-sets g.E.Keyed.key c.args.item _ c.in-Some.at (min t.len (room t)) t.slots.now c.key.ensures c.in-Some.ensures
+
+pub returns-clause-lookups : goal.returns-clause-lookups
+returns-clause-lookups g c k =
     let key = g.E.Keyed.key in
     let xs = entries c.args.self.now in
-    let reply = told key _ None c.args.item _ xs refl (sym c.in_default.is ∙ c.find.ensures) c.key.ensures in
-    let after = missing-stays key c.args.item xs reply in
-    record { reply = reply; after = after; lookups = λ k. refl; keys = refl; keeps = λ h. h; room = refl }
+    ap (lookup key k) (returns-clause-after g c) ∙ lookup-replaced key c.args.item xs k ∙ ap (λ b. lookup_after key b c.args.item xs k) (sym (returns-clause-reply g c))
+
+pub returns-clause-keys : goal.returns-clause-keys
+returns-clause-keys g c = ap (map g.E.Keyed.key) (returns-clause-after g c) ∙ keys_replaced g.E.Keyed.key c.args.item (entries c.args.self.now)
+
+pub returns-clause-keeps : goal.returns-clause-keeps
+returns-clause-keeps g c h = ap rises (returns-clause-keys g c) ∙ h
