@@ -12,4 +12,4 @@ module _ {K : Type 0} (rank : K → ℕ) (cmp : K → K → Ordering) (orders : 
   equal_ranks eq ties a b = ties a b ∙ ap is_eq (orders a b) ∙ unsigned_tied (rank a) (rank b)
 
   pub below_ranks : (partial_cmp : K → K → Option Ordering) → ((a b : K) → partial_cmp a b ≡ Some (cmp a b)) → (a b : K) → is_some_and is_lt (partial_cmp a b) ≡ ltb (rank a) (rank b)
-  below_ranks partial_cmp total a b = ap (is_some_and is_lt) (total a b) ∙ ap is_lt (orders a b) ∙ nat_lt_is (rank a) (rank b)
+  below_ranks partial_cmp answers a b = ap (is_some_and is_lt) (answers a b) ∙ ap is_lt (orders a b) ∙ nat_lt_is (rank a) (rank b)

@@ -1,9 +1,9 @@
 -- What look-ups and the order of the keys come to after each change, and that a rising list is decided by its look-ups.
-use Rattle.std.proofs.Common.{◌≡◌, ℕ, ◌<◌, ◌≤◌, min, true, false, cond, eqb, ltb, List, [], ◌∷◌, map, length, is_some, is_ok, Some, None, sym, refl, ap, ◌∙◌, ⊎_elim, arith}
+use Rattle.std.proofs.Common.{◌≡◌, ℕ, ◌<◌, ◌≤◌, min, true, false, List, [], ◌∷◌, map, length, is_some, is_ok, Some, None, sym, refl, ap, ◌∙◌, ⊎_elim, arith}
 use Rattle.std.proofs.lemmas.List.{length-map, length-take}
-use Rattle.std.proofs.lemmas.Bool.{and_parts, and_from, cases_Bool, cases_eq, cases_order, cond_both, cond-true, cond-false, eq-eqb, ne_eqb, eqb-true, lt-ltb, ltb-true, ltb-false, true≢false}
+use Rattle.std.proofs.lemmas.Bool.{and_from, cases_eq, cases_order, cond-true, lt-ltb, true≢false}
 use Rattle.std.proofs.lemmas.Bool.Decides.{nat_tests}
-use Rattle.table.specs.Entries.{lookup, inserted, replaced, same_keys, rises_from, rises, Rising}
+use Rattle.table.specs.Entries.{lookup, inserted, replaced, same_keys, rises_from, Rising}
 use Rattle.table.specs.Tables.{room, entries, insert_reply, insert_after, rewritten, lookup_after}
 use Rattle.table.specs.declared.table.Table.{Table}
 
@@ -23,37 +23,26 @@ module _ {E : Type 0} (key : E → ℕ) where
   keys_replaced e [] = refl
   keys_replaced e (x ∷ xs) = let ih = keys_replaced e xs in grind (arith, nat_tests)
 
-  missed : (k : ℕ) (x : E) (xs : List E) → is_some (lookup key k (x ∷ xs)) ≡ false → (key x ≡ k → ⊥) × (is_some (lookup key k xs) ≡ false)
-  missed k x xs h = grind (arith, nat_tests)
-
   from-inserted : (k : ℕ) (e : E) (xs : List E) → k < key e → is_some (lookup key (key e) xs) ≡ false → rises_from k (map key xs) ≡ true → rises_from k (map key (inserted key e xs)) ≡ true
   from-inserted k e [] l free h = and_from _ _ (lt-ltb k (key e) l) refl
   from-inserted k e (x ∷ xs) l free h =
-      let apart = missed (key e) x xs free in
-      let p = and_parts (ltb k (key x)) (rises_from (key x) (map key xs)) h in
-      cond_both (ltb (key x) (key e)) (x ∷ inserted key e xs) (e ∷ (x ∷ xs)) (λ ys. rises_from k (map key ys) ≡ true)
-      (λ t. and_from _ _ p.0 (from-inserted (key x) e xs (ltb-true _ _ t) apart.1 p.1))
-      (λ f. and_from _ _ (lt-ltb k (key e) l) (and_from _ _ (lt-ltb (key e) (key x) (grind (arith, ltb-false (key x) (key e) f))) p.1))
+      let ih = from-inserted (key x) e xs in
+      grind (arith, nat_tests)
 
   pub rising_inserted : (e : E) (xs : List E) → is_some (lookup key (key e) xs) ≡ false → Rising key xs → Rising key (inserted key e xs)
   rising_inserted e [] free h = refl
   rising_inserted e (x ∷ xs) free h =
-      let apart = missed (key e) x xs free in
-      cond_both (ltb (key x) (key e)) (x ∷ inserted key e xs) (e ∷ (x ∷ xs)) (λ ys. Rising key ys)
-      (λ t. from-inserted (key x) e xs (ltb-true _ _ t) apart.1 h)
-      (λ f. and_from _ _ (lt-ltb (key e) (key x) (grind (arith, ltb-false (key x) (key e) f))) h)
+      let ih = from-inserted (key x) e xs in
+      grind (arith, nat_tests)
 
   -- what an insertion leaves, granted or not
   pub lookup-after : (e : E) (xs : List E) (room k : ℕ) → lookup key k (insert_after key e xs room) ≡ lookup_after key (is_ok (insert_reply key e xs room)) e xs k
-  lookup-after e xs room k =
-      elim (is_ok (insert_reply key e xs room)) as (λ b. lookup key k (cond b (inserted key e xs) xs) ≡ lookup_after key b e xs k) [ true ↦ lookup-inserted e xs k | false ↦ refl ]
+  lookup-after e xs room k = let more = lookup-inserted e xs k in grind (arith, nat_tests)
 
   pub rising_after : (e : E) (xs : List E) (room : ℕ) → Rising key xs → Rising key (insert_after key e xs room)
   rising_after e xs room h =
-      ⊎_elim
-      (λ used. ap (λ r. rises (map key (cond (is_ok r) (inserted key e xs) xs))) (cond-true _ _ _ used) ∙ h)
-      (λ free. cond_both (is_ok (insert_reply key e xs room)) (inserted key e xs) xs (λ ys. Rising key ys) (λ _. rising_inserted e xs free h) (λ _. h))
-      (cases_Bool (is_some (lookup key (key e) xs)))
+      let more = rising_inserted e xs in
+      grind (arith, nat_tests)
 
   -- two lists have the same keys exactly if the test tells so
   pub keys_from_same : (xs ys : List E) → same_keys key xs ys ≡ true → map key xs ≡ map key ys
@@ -61,16 +50,14 @@ module _ {E : Type 0} (key : E → ℕ) where
   keys_from_same [] (y ∷ ys) h = absurd (true≢false (sym h))
   keys_from_same (x ∷ xs) [] h = absurd (true≢false (sym h))
   keys_from_same (x ∷ xs) (y ∷ ys) h =
-      let p = and_parts (eqb (key x) (key y)) (same_keys key xs ys) h in
-      let first = eqb-true (key x) (key y) p.0 in
-      let rest = keys_from_same xs ys p.1 in
-      cc
+      let ih = keys_from_same xs ys in
+      grind (arith, nat_tests)
 
   pub same_from_keys : (xs ys : List E) → map key xs ≡ map key ys → same_keys key xs ys ≡ true
   same_from_keys [] [] h = refl
-  same_from_keys [] (y ∷ ys) h = absurd (true≢false (cc))
-  same_from_keys (x ∷ xs) [] h = absurd (true≢false (cc))
-  same_from_keys (x ∷ xs) (y ∷ ys) h = and_from _ _ (eq-eqb (key x) (key y) (cc)) (same_from_keys xs ys (cc))
+  same_from_keys [] (y ∷ ys) h = grind (arith, nat_tests)
+  same_from_keys (x ∷ xs) [] h = grind (arith, nat_tests)
+  same_from_keys (x ∷ xs) (y ∷ ys) h = let ih = same_from_keys xs ys in grind (arith, nat_tests)
 
   pub rewritten-from_keys : (others xs : List E) → map key others ≡ map key xs → rewritten key others xs ≡ others
   rewritten-from_keys others xs h = cond-true _ _ _ (same_from_keys others xs h)
@@ -79,26 +66,26 @@ module _ {E : Type 0} (key : E → ℕ) where
   size-from_same xs ys h = sym (length-map xs key) ∙ ap length (keys_from_same xs ys h) ∙ length-map ys key
 
   here : (x : E) (xs : List E) → lookup key (key x) (x ∷ xs) ≡ Some x
-  here x xs = cond-true _ _ _ (eq-eqb (key x) (key x) refl)
+  here x xs = grind (arith, nat_tests)
 
   past : (k : ℕ) (x : E) (xs : List E) → (key x ≡ k → ⊥) → lookup key k (x ∷ xs) ≡ lookup key k xs
-  past k x xs h = cond-false _ _ _ (ne_eqb (key x) k h)
+  past k x xs h = grind (arith, nat_tests)
 
   -- a key that is not above the one that the list rises from
   not_found : (k n : ℕ) (xs : List E) → k ≤ n → rises_from n (map key xs) ≡ true → lookup key k xs ≡ None
   not_found k n [] l h = refl
   not_found k n (x ∷ xs) l h =
-      let p = and_parts (ltb n (key x)) (rises_from (key x) (map key xs)) h in
-      let above = ltb-true n (key x) p.0 in
-      past k x xs (λ e. omega arith) ∙ not_found k (key x) xs (omega arith) p.1
+      let ih = not_found k (key x) xs in
+      grind (arith, nat_tests)
 
   no_smaller-first : (x y : E) (xs ys : List E) → Rising key (y ∷ ys) → key x < key y → lookup key (key x) (x ∷ xs) ≡ lookup key (key x) (y ∷ ys) → ⊥
   no_smaller-first x y xs ys h l e =
-      true≢false (ap is_some (sym (here x xs) ∙ e ∙ past (key x) y ys (λ q. omega arith) ∙ not_found (key x) (key y) ys (omega arith) h))
+      let none = not_found (key x) (key y) ys in
+      grind (arith, nat_tests)
 
   rising_rest : (x : E) (xs : List E) → Rising key (x ∷ xs) → Rising key xs
   rising_rest x [] h = refl
-  rising_rest x (y ∷ ys) h = (and_parts (ltb (key x) (key y)) (rises_from (key y) (map key ys)) h).1
+  rising_rest x (y ∷ ys) h = grind (arith, nat_tests)
 
   tails : (x y : E) (xs ys : List E) → key x ≡ key y → Rising key (x ∷ xs) → Rising key (y ∷ ys) → ((k : ℕ) → lookup key k (x ∷ xs) ≡ lookup key k (y ∷ ys)) → (k : ℕ) → lookup key k xs ≡ lookup key k ys
   tails x y xs ys q h j f k =

@@ -2,5 +2,4 @@ pub mod Laws
 mod Keys
 mod Words
 mod Positions
-mod Replies
 mod Writes

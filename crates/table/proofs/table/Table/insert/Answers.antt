@@ -1,11 +1,10 @@
-use Rattle.std.proofs.Common.{◌≡◌, ◌+◌, true, false, min, map, length, take, is_some, is_ok, sym, ap, ◌∙◌, arith}
+use Rattle.std.proofs.Common.{◌+◌, cond, min, map, length, take, is_ok, sym, ap, ◌∙◌, arith}
 use Rattle.std.proofs.lemmas.Bool.{eqb-false}
 use Rattle.std.proofs.lemmas.Bool.Decides.{nat_tests}
-use Rattle.table.specs.Entries.{lookup, rises}
+use Rattle.table.specs.Entries.{lookup, inserted, rises}
 use Rattle.table.specs.Tables.{entries, room, lookup_after}
 use Rattle.table.proofs.Laws.{lookup-after, rising_after}
 use Rattle.table.proofs.Positions.{told}
-use Rattle.table.proofs.Replies.{in_use, full, granted, leaves}
 use Rattle.table.proofs.Writes.{grown}
 use Rattle.table.proofs.table.Table.insert.Goals as goal
 
@@ -16,7 +15,8 @@ returns-then-is_some-clause-reply g c =
 
 pub returns-then-is_some-clause-after : goal.returns-then-is_some-clause-after
 returns-then-is_some-clause-after g c =
-    leaves g.E.Keyed.key c.args.item (entries c.args.self.now) (room c.args.self.now) _ (returns-then-is_some-clause-reply g c)
+    let xs = entries c.args.self.now in
+    ap (λ r. cond (is_ok r) (inserted g.E.Keyed.key c.args.item xs) xs) (returns-then-is_some-clause-reply g c)
 
 pub returns-then-is_full-clause-reply : goal.returns-then-is_full-clause-reply
 returns-then-is_full-clause-reply g c =
@@ -37,7 +37,7 @@ returns-clause-after g c =
     ap (λ n. take (min (c.len-len.result + 1) (min t.limit n)) c.insert_at.new.slots) c.insert_at.auto.slots
     ∙ grown key e t.slots.now c.insert_at.new.slots c.all.result.now (min t.len (room t)) c.len-len.result c.place-at.result (room t)
     (omega arith) c.len-len.ensures.reply (omega arith) c.all.ensures c.place-at.ensures.splits c.insert_at.ensures
-    ∙ leaves key e (entries t) (room t) _ (returns-clause-reply g c)
+    ∙ ap (λ r. cond (is_ok r) (inserted key e (entries t)) (entries t)) (returns-clause-reply g c)
 
 pub returns-clause-lookups : goal.returns-clause-lookups
 returns-clause-lookups g c k =
