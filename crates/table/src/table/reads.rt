@@ -46,6 +46,7 @@ impl<'a, E> Table<'a, E> {
 }
 
 impl<'a, E: Keyed + Copy> Table<'a, E> {
+    // From the front, and not by halves: this is promised of entries whose keys do not rise, too.
     pub fn find(&self, wanted: E::Key) -> Option<usize>
         ensures { result ≡ position E.key (E.Key.Rank.rank wanted) (entries self.now) }
     {

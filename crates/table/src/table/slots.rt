@@ -3,7 +3,7 @@ ghost use Rattle.table.specs.Entries.{inserted, same_keys};
 
 use crate::key::{Keyed, Rank};
 
-// Where an entry goes: before the first whose key is not below its own.
+// Where an entry goes: before the first whose key is not below its own, in whatever order the entries stand.
 pub(crate) fn place<E: Keyed + Copy>(rows: &[E], item: E) -> usize
     ensures within { result ≤ length rows.now }
     ensures splits { inserted E.key item rows.now ≡ take result rows.now ++ (item ∷ drop result rows.now) }
@@ -21,8 +21,7 @@ pub(crate) fn insert_at<E: Copy>(slots: &mut [E], at: usize, len: usize, item: E
     slots[at] = item;
 }
 
-// `put` and `put_front` take the slots alone: no proof was found where a table writes them through its own field, since
-// there a proof knows neither that the slots fit in memory nor what a part of them holds once its loan ends.
+// `put` and `put_front` take the slots alone: written through a table's field, too little is known of them for a proof.
 pub(crate) fn put<E: Copy>(slots: &mut [E], at: usize, item: E)
     requires { at < length slots.old }
     ensures { slots.new ≡ slice_set slots.old at item }
