@@ -1,9 +1,9 @@
 -- The area under a bid is the sum of the step price over each kWh.
-use Rattle.std.proofs.Common.{◌≡◌, ℕ, zero, suc, ◌+◌, ◌-◌, ◌*◌, ◌≤◌, max, ℤ, pos, ◌+ℤ◌, ◌*ℤ◌, nat_abs, sym, ap, ◌∙◌, subst, ⊎_elim, arith}
+use Rattle.std.proofs.Common.{◌≡◌, ℕ, zero, suc, ◌+◌, ◌-◌, ◌*◌, ◌^◌, ◌<◌, ◌≤◌, max, ℤ, pos, ◌+ℤ◌, ◌*ℤ◌, nat_abs, sym, ap, ◌∙◌, subst, ⊎_elim, arith, w64, SFits, to_z, of_z}
 use lib.IntN.{suc_ℤ-*ℤ, zero-*ℤ}
 use Rattle.std.proofs.lemmas.Bool.{cases_lt, cond-true, cond-false, lt-ltb, le-ltb}
-use Rattle.std.proofs.lemmas.Int.{ints}
-use Rattle.money.proofs.Products.{abs-mul-le, abs-add-le}
+use Rattle.std.proofs.lemmas.Int.{ints, to_z-of_z}
+use Rattle.money.proofs.Products.{abs-mul-le, abs-add-le, fits-abs}
 use Rattle.tariff.specs.declared.generator.EnergyBid.{EnergyBid}
 use Rattle.tariff.specs.Bids.{between, area, price_at, one_by_one, Priced}
 
@@ -60,9 +60,17 @@ priced b v d = record {
   nothing_if_not_above = nothing b v d;
 }
 
+-- the first two parts
+abbrev pub two_parts : EnergyBid → ℕ → ℕ → ℤ
+two_parts b v d = pos (between 0 b.u1 v d) *ℤ b.b1 +ℤ pos (between b.u1 b.u2 v d) *ℤ b.b2
+
 -- no kWh costs more than 200,000 thousandths
-pub area-size : (b : EnergyBid) (v d : ℕ) → nat_abs (area b v d) ≤ d * 200000
-area-size b v d =
+pub record PartsSize (b : EnergyBid) (v d : ℕ) : Type 0 where
+  pub two : nat_abs (two_parts b v d) ≤ d * 200000
+  pub all : nat_abs (area b v d) ≤ d * 200000
+
+pub parts-size : (b : EnergyBid) (v d : ℕ) → PartsSize b v d
+parts-size b v d =
     let x = between 0 b.u1 v d in
     let y = between b.u1 b.u2 v d in
     let z = d - max b.u2 v in
@@ -71,5 +79,22 @@ area-size b v d =
     let second = abs-mul-le (pos y) b.b2 y 200000 (omega arith) b.prices.1 in
     let third = abs-mul-le (pos z) b.b3 z 200000 (omega arith) b.prices.2 in
     let two = abs-add-le (pos x *ℤ b.b1) (pos y *ℤ b.b2) in
-    let all = abs-add-le (pos x *ℤ b.b1 +ℤ pos y *ℤ b.b2) (pos z *ℤ b.b3) in
-    omega arith
+    let all = abs-add-le (two_parts b v d) (pos z *ℤ b.b3) in
+    record { two = omega arith; all = omega arith }
+
+-- the parts added up, as numbers of 64 bits: no sum wraps, and they are the area
+pub record Added (b : EnergyBid) (v d : ℕ) (first second third : ℤ) : Type 0 where
+  pub two_fit : SFits w64 (first +ℤ second)
+  pub all_fit : SFits w64 (to_z w64 (of_z w64 (first +ℤ second)) +ℤ third)
+  pub is : to_z w64 (of_z w64 (to_z w64 (of_z w64 (first +ℤ second)) +ℤ third)) ≡ area b v d
+
+pub added : (b : EnergyBid) (v d : ℕ) (first second third : ℤ) → d < 2 ^ 32
+    → first ≡ pos (between 0 b.u1 v d) *ℤ b.b1 → second ≡ pos (between b.u1 b.u2 v d) *ℤ b.b2 → third ≡ pos (d - max b.u2 v) *ℤ b.b3
+    → Added b v d first second third
+added b v d first second third few e f g =
+    let size = parts-size b v d in
+    let two : first +ℤ second ≡ two_parts b v d = λ i. e i +ℤ f i in
+    let two_fit = subst (SFits w64) (sym two) (fits-abs w64 _ (omega (arith, size.two))) in
+    let all : to_z w64 (of_z w64 (first +ℤ second)) +ℤ third ≡ area b v d = λ i. (to_z-of_z w64 _ two_fit ∙ two) i +ℤ g i in
+    let all_fit = subst (SFits w64) (sym all) (fits-abs w64 _ (omega (arith, size.all))) in
+    record { two_fit = two_fit; all_fit = all_fit; is = to_z-of_z w64 _ all_fit ∙ all }

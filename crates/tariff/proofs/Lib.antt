@@ -1,6 +1,9 @@
 pub mod Made
 pub mod Forms
 pub mod Areas
+pub mod Arrays
+pub mod Hours
 pub mod Sizes
+pub mod Sums
 pub mod Turns
 pub mod Uplifts

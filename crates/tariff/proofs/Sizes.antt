@@ -10,17 +10,17 @@ use Rattle.hours.specs.declared.records.HourRecord.{HourRecord}
 use Rattle.hours.specs.declared.records.Price.{Price}
 use Rattle.tariff.specs.Bids.{area}
 use Rattle.tariff.specs.Costs.{taken, hour_cost, hour_revenue}
-use Rattle.tariff.proofs.Areas.{area-size}
+use Rattle.tariff.proofs.Areas.{parts-size}
 
 pub cost_size : (g : Generator) (k : HourKind) (r : HourRecord) → nat_abs (hour_cost g k r) ≤ 21000000000
 cost_size g SelfCommitted r =
     let h = r.bounds in
-    omega (arith, or_zero-size r.day_ahead, area-size g.bid (taken g r) (or_zero r.day_ahead))
+    omega (arith, or_zero-size r.day_ahead, (parts-size g.bid (taken g r) (or_zero r.day_ahead)).all)
 cost_size g Committed r =
     let h = r.bounds in
     let k = g.costs in
     let a = area g.bid g.min_load (or_zero r.day_ahead) in
-    omega (arith, or_zero-size r.day_ahead, area-size g.bid g.min_load (or_zero r.day_ahead), abs-add-le (pos (1000 * g.load_cost)) a)
+    omega (arith, or_zero-size r.day_ahead, (parts-size g.bid g.min_load (or_zero r.day_ahead)).all, abs-add-le (pos (1000 * g.load_cost)) a)
 cost_size g Off r = omega arith
 
 pub revenue-size : (g : Generator) (k : HourKind) (r : HourRecord) (p : Price) → nat_abs (hour_revenue g k r p) ≤ 20000000000

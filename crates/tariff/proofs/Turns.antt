@@ -1,49 +1,18 @@
--- The loops of a generator's day, turn by turn.
-use Rattle.std.proofs.Common.{◌≡◌, ℕ, ◌+◌, ◌<◌, ◌≤◌, Bool, true, false, cond, ◌&&◌, ◌||◌, leb, List, ◌∷◌, length, get_or, take, drop, count_by, Option, sym, refl, ap, ◌∙◌, arith}
-use mir.Val.{bool_byte}
-use Rattle.std.proofs.lemmas.List.{at_drop_more, at_drop_all}
-use Rattle.std.proofs.lemmas.List.Sums.{sum_by_more}
-use Rattle.std.proofs.lemmas.Bool.{cond_both}
+-- What every hour of a day is, hour by hour.
+use Rattle.std.proofs.Common.{◌≡◌, ℕ, zero, suc, ◌+◌, ◌<◌, List, [], ◌∷◌, length, get_or, None, Option, ap, arith}
 use Rattle.commitment.specs.declared.stretch.Stretch.{Stretch}
 use Rattle.commitment.specs.Stretches.{covers}
 use Rattle.hours.specs.declared.records.HourRecord.{HourRecord}
 use Rattle.hours.specs.Days.{counted}
 use Rattle.tariff.specs.declared.cost.HourKind.{HourKind}
-use Rattle.tariff.specs.Costs.{kind_of, kinds_from, is_self_committed, self_in}
+use Rattle.tariff.specs.Costs.{kind_of, kinds_from}
 
-pub kind_now : (periods : List Stretch) (slots : List (Option HourRecord)) (i : ℕ) (d : Option HourRecord) (k : HourKind) → i < length slots
-    → k ≡ kind_of (covers periods (i + 1)) (counted (get_or slots i d)).committed
-    → kinds_from (i + 1) periods (drop i slots) ≡ k ∷ kinds_from (i + 1 + 1) periods (drop (i + 1) slots)
-kind_now periods slots i d k h e = at_drop_more (kinds_from (i + 1) periods) slots i d h ∙ ap (λ z. z ∷ kinds_from (i + 1 + 1) periods (drop (i + 1) slots)) (sym e)
+pub length-kinds_from : (h : ℕ) (periods : List Stretch) (slots : List (Option HourRecord)) → length (kinds_from h periods slots) ≡ length slots
+length-kinds_from h periods [] = omega arith
+length-kinds_from h periods (slot ∷ slots) = ap suc (length-kinds_from (h + 1) periods slots)
 
--- the search of a run for a self-committed hour, before hour i + 1
-abbrev pub Unseen : Stretch → List HourKind → ℕ → Type 0
-Unseen run ks i = self_in run (i + 1) (drop i ks) ≡ self_in run 1 ks
-
-module _ (run : Stretch) (ks : List HourKind) (i : ℕ) (d : HourKind) (h : i < length ks) (inv : Unseen run ks i) where
-  abbrev here : Bool
-  here = (leb run.first (i + 1) && leb (i + 1) run.last) && is_self_committed (get_or ks i d)
-
-  turn : self_in run 1 ks ≡ here || self_in run (i + 1 + 1) (drop (i + 1) ks)
-  turn = sym inv ∙ at_drop_more (self_in run (i + 1)) ks i d h
-
-  pub unseen_more : here ≡ false → Unseen run ks (i + 1)
-  unseen_more e = sym (turn ∙ ap (λ b. b || self_in run (i + 1 + 1) (drop (i + 1) ks)) e)
-
-  pub seen_now : here ≡ true → self_in run 1 ks ≡ true
-  seen_now e = turn ∙ ap (λ b. b || self_in run (i + 1 + 1) (drop (i + 1) ks)) e
-
-pub unseen_end : (run : Stretch) (ks : List HourKind) (i : ℕ) → length ks ≤ i → Unseen run ks i → self_in run 1 ks ≡ false
-unseen_end run ks i h inv = sym inv ∙ at_drop_all (self_in run (i + 1)) ks i h
-
--- counting: one more where the test holds
-byte_is : (t : Bool) → bool_byte t ≡ cond t 1 0
-byte_is true = refl
-byte_is false = refl
-
-pub count_more : {X : Type 0} (p : X → Bool) (xs : List X) (i : ℕ) (d : X) (count n : ℕ) (t : Bool) → i < length xs → n ≡ bool_byte t → t ≡ p (get_or xs i d)
-    → (count ≡ count_by p (take i xs)) × (count ≤ i) → (count + n ≡ count_by p (take (i + 1) xs)) × (count + n ≤ i + 1)
-count_more p xs i d count n t h e test inv =
-    let more = sum_by_more (λ x. cond (p x) 1 0) xs i d h in
-    let one : n ≡ cond (p (get_or xs i d)) 1 0 = e ∙ byte_is t ∙ ap (λ b. cond b 1 0) test in
-    (omega arith, cond_both (p (get_or xs i d)) 1 0 (λ m. n ≡ m → count + n ≤ i + 1) (λ _ k. omega arith) (λ _ k. omega arith) one)
+pub get_or-kinds_from : (h : ℕ) (periods : List Stretch) (slots : List (Option HourRecord)) (i j : ℕ) (d : HourKind) → i < length slots → h + i ≡ j
+    → get_or (kinds_from h periods slots) i d ≡ kind_of (covers periods j) (counted (get_or slots i None)).committed
+get_or-kinds_from h periods [] i j d below e = absurd (omega arith)
+get_or-kinds_from h periods (slot ∷ slots) zero j d below e = let k : h ≡ j = omega arith in ap (λ n. kind_of (covers periods n) (counted slot).committed) k
+get_or-kinds_from h periods (slot ∷ slots) (suc i) j d below e = get_or-kinds_from (h + 1) periods slots i j d (omega arith) (omega arith)

@@ -10,21 +10,6 @@ fn between(a: u32, b: u32, from: u32, to: u32) -> u32
     b.min(to).saturating_sub(a.max(from))
 }
 
-fn step_cost(kwh: u32, price: i32) -> i64
-    requires { unsigned_abs price ≤ 200000 }
-    ensures value { result ≡ pos kwh *ℤ price }
-    ensures bound { unsigned_abs result ≤ kwh * 200000 }
-{
-    cost(kwh, price)
-}
-
-fn sum3(a: i64, b: i64, c: i64) -> i64
-    requires { (unsigned_abs a ≤ 2 ^ 60) × ((unsigned_abs b ≤ 2 ^ 60) × (unsigned_abs c ≤ 2 ^ 60)) }
-    ensures { result ≡ a +ℤ b +ℤ c }
-{
-    a + b + c
-}
-
 impl EnergyBid {
     // What the bid asks for the energy between two quantities, in thousandths of a cent.
     pub fn area(&self, from: u32, to: u32) -> i64
@@ -32,9 +17,9 @@ impl EnergyBid {
         ensures law { Priced self.now from to result }
         ensures bound { unsigned_abs result ≤ to * 200000 }
     {
-        let first = step_cost(between(0, self.u1, from, to), self.b1);
-        let second = step_cost(between(self.u1, self.u2, from, to), self.b2);
-        let third = step_cost(to.saturating_sub(self.u2.max(from)), self.b3);
-        sum3(first, second, third)
+        let first = cost(between(0, self.u1, from, to), self.b1);
+        let second = cost(between(self.u1, self.u2, from, to), self.b2);
+        let third = cost(to.saturating_sub(self.u2.max(from)), self.b3);
+        first + second + third
     }
 }

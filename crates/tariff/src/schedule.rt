@@ -16,11 +16,7 @@ fn is_flagged(slot: Option<HourRecord>) -> bool
 fn flags(slots: &[Option<HourRecord>; 24]) -> [bool; 24]
     ensures { result ≡ flags slots.now }
 {
-    let mut out = [false; 24];
-    for i in 0..24 {
-        out[i] = is_flagged(slots[i]);
-    }
-    out
+    slots.map(is_flagged)
 }
 
 impl Generator {

@@ -1,56 +1,52 @@
-ghost use Rattle.std.specs.Prelude.{◌≡◌, ◌*◌, ◌≤◌, ◌&&◌, map, length, pos, ◌-ℤ◌, count_by, nat_le, unsigned_abs};
+ghost use Rattle.std.specs.Prelude.{◌≡◌, ◌+◌, ◌*◌, ◌<◌, ◌≤◌, map, pos, ◌-ℤ◌, unsigned_abs};
 ghost use Rattle.money.specs.Amounts.{or_zero};
 ghost use Rattle.money.specs.Rounding.{rounded};
 ghost use Rattle.commitment.specs.StretchLaws.{Longest};
-ghost use Rattle.commitment.specs.Stretches.{listed};
-ghost use Rattle.tariff.specs.Costs.{is_on, is_self_committed, kinds_from, kinds, runs, self_in, paid_start, start_ups, costs, revenues, cost_of, bid_cost, revenue, uplift, Uplifted};
+ghost use Rattle.commitment.specs.Stretches.{listed, covers};
+ghost use Rattle.hours.specs.Days.{record_at};
+ghost use Rattle.tariff.specs.Costs.{is_on, is_self_committed, kind_of, kinds_from, kinds, runs, self_in, paid_start, start_ups, costs, revenues, cost_of, bid_cost, revenue, uplift, Uplifted};
 
 use super::HourKind;
-use super::hourly::kind_of;
+use super::hourly::{kind_of, thousandths};
 use crate::generator::Generator;
 use commitment::{Stretch, Stretches};
 use hours::{Day, HourRecord, Price};
 use money::{or_zero, plus, round_cents};
+use std::array;
 
 impl HourKind {
     pub fn is_on(self) -> bool
         ensures { result ≡ is_on self }
     {
-        match self {
-            HourKind::SelfCommitted | HourKind::Committed => true,
-            HourKind::Off => false,
-        }
+        matches!(self, HourKind::Committed | HourKind::SelfCommitted)
     }
 
     fn is_self_committed(self) -> bool
         ensures { result ≡ is_self_committed self }
     {
-        match self {
-            HourKind::SelfCommitted => true,
-            HourKind::Committed | HourKind::Off => false,
-        }
+        matches!(self, HourKind::SelfCommitted)
     }
+}
+
+// What the hour is that follows the first `at`.
+fn kind_at(periods: &Stretches, slots: &[Option<HourRecord>; 24], at: usize) -> HourKind
+    requires { at < 24 }
+    ensures { result ≡ kind_of (covers (listed periods.now) (at + 1)) (record_at slots.now at).committed }
+{
+    let belongs = periods.cover(at as u8 + 1);
+    kind_of(belongs, HourRecord::counted(slots[at]).committed)
 }
 
 fn kinds_in(periods: &Stretches, slots: &[Option<HourRecord>; 24]) -> [HourKind; 24]
     ensures { result ≡ kinds_from 1 (listed periods.now) slots.now }
 {
-    let mut out = [HourKind::Off; 24];
-    for i in 0..24 {
-        let belongs = periods.cover(i as u8 + 1);
-        out[i] = kind_of(belongs, HourRecord::counted(slots[i]).committed);
-    }
-    out
+    array::from_fn(|at| kind_at(periods, slots, at))
 }
 
 fn marks(kinds: &[HourKind; 24]) -> [bool; 24]
     ensures { result ≡ map is_on kinds.now }
 {
-    let mut out = [false; 24];
-    for i in 0..24 {
-        out[i] = kinds[i].is_on();
-    }
-    out
+    kinds.map(HourKind::is_on)
 }
 
 // The runs of a day: the longest stretches of hours that are on.
@@ -61,41 +57,19 @@ pub fn runs(kinds: &[HourKind; 24]) -> Stretches
     Stretches::of(&marks(kinds))
 }
 
-fn is_self_in(run: Stretch, hour: u8, kind: HourKind) -> bool
-    ensures { result ≡ ((nat_le run.first hour && nat_le hour run.last) && is_self_committed kind) }
-{
-    run.has(hour) && kind.is_self_committed()
-}
-
 fn self_in(run: Stretch, kinds: &[HourKind; 24]) -> bool
     ensures { result ≡ self_in run 1 kinds.now }
 {
-    for i in 0..24 {
-        if is_self_in(run, i as u8 + 1, kinds[i]) {
-            return true;
-        }
-    }
-    false
+    (1..)
+        .zip(kinds)
+        .any(|(hour, kind)| run.has(hour) && kind.is_self_committed())
 }
 
 // Whether a run's start-up is paid: no hour of it is self-committed, and it was not carried in.
 pub fn start_is_paid(run: Stretch, kinds: &[HourKind; 24], carried_in: bool) -> bool
     ensures { result ≡ paid_start carried_in kinds.now run }
 {
-    let own = self_in(run, kinds);
-    !(carried_in && run.first == 1) && !own
-}
-
-fn paid_starts(runs: &[Stretch], kinds: &[HourKind; 24], carried_in: bool) -> u32
-    requires { length runs.now ≤ 24 }
-    ensures value { result ≡ count_by (paid_start carried_in kinds.now) runs.now }
-    ensures bound { result ≤ 24 }
-{
-    let mut count = 0;
-    for i in 0..runs.len() {
-        count += u32::from(start_is_paid(runs[i], kinds, carried_in));
-    }
-    count
+    !(carried_in && run.first == 1) && !self_in(run, kinds)
 }
 
 // How many runs of the day have their start-up paid.
@@ -103,37 +77,11 @@ pub fn start_ups(kinds: &[HourKind; 24], carried_in: bool) -> u32
     ensures value { result ≡ start_ups carried_in kinds.now }
     ensures bound { result ≤ 24 }
 {
-    paid_starts(runs(kinds).as_slice(), kinds, carried_in)
-}
-
-fn sum_costs(generator: &Generator, kinds: &[HourKind; 24], slots: &[Option<HourRecord>; 24]) -> i64
-    ensures value { result ≡ costs generator.now kinds.now slots.now }
-    ensures bound { unsigned_abs result ≤ 504000000000 }
-{
-    let mut total: i64 = 0;
-    for i in 0..24 {
-        let hour = HourRecord::counted(slots[i]);
-        total = plus(total, generator.hour_cost(kinds[i], &hour));
-    }
-    total
-}
-
-fn sum_revenues(
-    generator: &Generator,
-    kinds: &[HourKind; 24],
-    slots: &[Option<HourRecord>; 24],
-    prices: &[Option<Price>; 24],
-) -> i64
-    ensures value { result ≡ revenues generator.now kinds.now slots.now prices.now }
-    ensures bound { unsigned_abs result ≤ 480000000000 }
-{
-    let mut total: i64 = 0;
-    for i in 0..24 {
-        let hour = HourRecord::counted(slots[i]);
-        let price = Price::counted(prices[i]);
-        total = plus(total, generator.hour_revenue(kinds[i], &hour, &price));
-    }
-    total
+    runs(kinds)
+        .as_slice()
+        .iter()
+        .filter(|run| start_is_paid(**run, kinds, carried_in))
+        .count() as u32
 }
 
 // What the paid start-ups cost, in thousandths of a cent.
@@ -142,7 +90,7 @@ fn start_cost(count: u32, start_up: u32) -> i64
     ensures value { result ≡ pos (count * (1000 * start_up)) }
     ensures bound { unsigned_abs result ≤ 240000000000 }
 {
-    (u64::from(count) * (1000 * u64::from(start_up))) as i64
+    i64::from(count) * thousandths(start_up)
 }
 
 // Cost above revenue in whole cents, or nothing.
@@ -162,12 +110,44 @@ impl Generator {
         kinds_in(&self.periods(day), &day.slots)
     }
 
+    // The costs of all hours, added up.
+    fn costs(&self, kinds: &[HourKind; 24], slots: &[Option<HourRecord>; 24]) -> i64
+        ensures value { result ≡ costs self.now kinds.now slots.now }
+        ensures bound { unsigned_abs result ≤ 504000000000 }
+    {
+        kinds
+            .iter()
+            .zip(slots)
+            .map(|(kind, slot)| self.hour_cost(*kind, &HourRecord::counted(*slot)))
+            .fold(0, |total, cost| plus(total, cost))
+    }
+
+    // The revenues of all hours, added up.
+    fn revenues(
+        &self,
+        kinds: &[HourKind; 24],
+        slots: &[Option<HourRecord>; 24],
+        prices: &[Option<Price>; 24],
+    ) -> i64
+        ensures value { result ≡ revenues self.now kinds.now slots.now prices.now }
+        ensures bound { unsigned_abs result ≤ 480000000000 }
+    {
+        kinds
+            .iter()
+            .zip(slots)
+            .zip(prices)
+            .map(|((kind, slot), price)| {
+                self.hour_revenue(*kind, &HourRecord::counted(*slot), &Price::counted(*price))
+            })
+            .fold(0, |total, revenue| plus(total, revenue))
+    }
+
     fn cost_of(&self, kinds: &[HourKind; 24], slots: &[Option<HourRecord>; 24]) -> i64
         ensures value { result ≡ cost_of self.now kinds.now slots.now }
         ensures bound { unsigned_abs result ≤ 744000000000 }
     {
         let starts = start_cost(start_ups(kinds, self.carried_in), self.start_up);
-        plus(sum_costs(self, kinds, slots), starts)
+        plus(self.costs(kinds, slots), starts)
     }
 
     // The day's bid cost, in thousandths of a cent.
@@ -183,7 +163,7 @@ impl Generator {
         ensures value { result ≡ revenue self.now day.now.slots prices.now.slots }
         ensures bound { unsigned_abs result ≤ 480000000000 }
     {
-        sum_revenues(self, &self.kinds(day), &day.slots, &prices.slots)
+        self.revenues(&self.kinds(day), &day.slots, &prices.slots)
     }
 
     // What the day's bid cost is above its revenue, in cents, or nothing.
@@ -194,7 +174,7 @@ impl Generator {
     {
         let kinds = self.kinds(day);
         let cost = self.cost_of(&kinds, &day.slots);
-        let earned = sum_revenues(self, &kinds, &day.slots, &prices.slots);
+        let earned = self.revenues(&kinds, &day.slots, &prices.slots);
         paid(cost, earned)
     }
 }

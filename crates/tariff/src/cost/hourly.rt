@@ -10,10 +10,10 @@ use money::{cost, plus, product};
 fn kwh(energy: i32) -> u32
     ensures { result ≡ or_zero energy }
 {
-    if energy < 0 { 0 } else { energy as u32 }
+    u32::try_from(energy).unwrap_or(0)
 }
 
-pub(crate) fn kind_of(belongs: bool, committed: bool) -> HourKind
+pub(super) fn kind_of(belongs: bool, committed: bool) -> HourKind
     ensures { result ≡ kind_of belongs committed }
 {
     if belongs {
@@ -26,7 +26,7 @@ pub(crate) fn kind_of(belongs: bool, committed: bool) -> HourKind
 }
 
 // Whole cents as thousandths of a cent.
-fn thousandths(cents: u32) -> i64
+pub(super) fn thousandths(cents: u32) -> i64
     ensures { result ≡ pos (1000 * cents) }
 {
     1000 * i64::from(cents)

@@ -1,12 +1,11 @@
-use Rattle.std.proofs.Common.{sym, arith}
-use Rattle.tariff.proofs.Turns.{unseen_more, seen_now, unseen_end}
+use Rattle.std.proofs.Common.{◌∙◌, arith, rules, tests}
+use Rattle.std.proofs.lemmas.Iterator.Search.{any_from_yields_List}
+use Rattle.tariff.proofs.Hours.{numbered, own_hour, self_in_any}
 use Rattle.tariff.proofs.cost.account.self_in.Goals as goal
 
-pub returns-then-is_self_in : goal.returns-then-is_self_in
-returns-then-is_self_in c = sym (seen_now c.args.run c.args.kinds.now c.loop-i.i _ (omega arith) c.loop-i.invariant (sym c.if-is_self_in.ensures))
-
-pub loop-i-preserved : goal.loop-i-preserved
-loop-i-preserved c = unseen_more c.args.run c.args.kinds.now c.loop-i.i _ (omega arith) c.loop-i.invariant (sym c.if-is_self_in.ensures)
-
 pub returns : goal.returns
-returns c = sym (unseen_end c.args.run c.args.kinds.now c.loop-i.i (omega arith) c.loop-i.invariant)
+returns c =
+    let ks = c.args.kinds.now in
+    let chain = numbered c.zip.result 1 ks (search rules) (search rules) (omega arith) in
+    any_from_yields_List (own_hour c.args.run) c.any.new.self _ c.any.result c.any.ensures.ran chain (λ x b q k. search (rules, tests))
+    ∙ self_in_any c.args.run 1 ks

@@ -13,8 +13,8 @@ returns c =
     let prices = c.args.prices.now.slots in
     let cost : to_z w64 (of_z w64 c.cost_of-cost.result) ≡ bid_cost g slots =
     to_z-of_z w64 _ (record { sfits = c.cost_of-cost.type_inv }) ∙ c.cost_of-cost.ensures.value ∙ ap (λ ks. cost_of g ks slots) c.kinds-kinds.ensures in
-    let earned : to_z w64 (of_z w64 c.sum_revenues-earned.result) ≡ revenue g slots prices =
-    to_z-of_z w64 _ (record { sfits = c.sum_revenues-earned.type_inv }) ∙ c.sum_revenues-earned.ensures.value ∙ ap (λ ks. revenues g ks slots prices) c.kinds-kinds.ensures in
+    let earned : to_z w64 (of_z w64 c.revenues-earned.result) ≡ revenue g slots prices =
+    to_z-of_z w64 _ (record { sfits = c.revenues-earned.type_inv }) ∙ c.revenues-earned.ensures.value ∙ ap (λ ks. revenues g ks slots prices) c.kinds-kinds.ensures in
     let value = c.paid.ensures.value ∙ (λ i. or_zero (rounded (cost i -ℤ earned i))) in
     record {
       value = value;
