@@ -27,7 +27,7 @@ third_more x y z p q r = let m = suc_ℤ-*ℤ (pos z) r in omega (arith, ints)
 module _ (b : EnergyBid) (v n : ℕ) where
   more : area b v (v + suc n) ≡ area b v (v + n) +ℤ price_at b (v + n)
   more =
-      let ok = b.steps in
+      let ok = b.bounds.steps in
       let x = between 0 b.u1 v (v + n) in
       let y = between b.u1 b.u2 v (v + n) in
       let z = v + n - max b.u2 v in
@@ -74,10 +74,10 @@ parts-size b v d =
     let x = between 0 b.u1 v d in
     let y = between b.u1 b.u2 v d in
     let z = d - max b.u2 v in
-    let steps = b.steps in
-    let first = abs-mul-le (pos x) b.b1 x 200000 (omega arith) b.prices.0 in
-    let second = abs-mul-le (pos y) b.b2 y 200000 (omega arith) b.prices.1 in
-    let third = abs-mul-le (pos z) b.b3 z 200000 (omega arith) b.prices.2 in
+    let steps = b.bounds.steps in
+    let first = abs-mul-le (pos x) b.b1 x 200000 (omega arith) b.bounds.prices.0 in
+    let second = abs-mul-le (pos y) b.b2 y 200000 (omega arith) b.bounds.prices.1 in
+    let third = abs-mul-le (pos z) b.b3 z 200000 (omega arith) b.bounds.prices.2 in
     let two = abs-add-le (pos x *ℤ b.b1) (pos y *ℤ b.b2) in
     let all = abs-add-le (two_parts b v d) (pos z *ℤ b.b3) in
     record { two = omega arith; all = omega arith }

@@ -38,16 +38,7 @@ numbers_read f = (
 
 module _ (f : GeneratorForm) (h : all_fit (generator_fields f) ≡ true) where
   abbrev pub bounds : NumbersBounds (numbers_of f)
-  bounds = let k = form_bounds f h in record {
-    prices = k.prices;
-    rises = k.rises;
-    steps = k.steps;
-    costs = k.costs;
-    run = k.run;
-    down = k.down;
-    starts = k.starts;
-    above = k.above;
-  }
+  bounds = let k = form_bounds f h in record { bid = k.bid; own = k.own }
 
   pub numbers_read_lem : numbers_read f ≡ numbers_of f
   numbers_read_lem =

@@ -18,7 +18,7 @@ cost_size g SelfCommitted r =
     omega (arith, or_zero-size r.day_ahead, (parts-size g.bid (taken g r) (or_zero r.day_ahead)).all)
 cost_size g Committed r =
     let h = r.bounds in
-    let k = g.costs in
+    let k = g.bounds.costs in
     let a = area g.bid g.min_load (or_zero r.day_ahead) in
     omega (arith, or_zero-size r.day_ahead, (parts-size g.bid g.min_load (or_zero r.day_ahead)).all, abs-add-le (pos (1000 * g.load_cost)) a)
 cost_size g Off r = omega arith

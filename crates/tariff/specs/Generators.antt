@@ -2,15 +2,14 @@
 --
 --   generator_fields   the twelve numbers in their order, each with its range
 --   generator_of       the generator, or the first number out of range
-use Rattle.std.specs.Prelude.{◌≡◌, ◌≤◌, Bool, true, false, T, List, [], ◌∷◌, pos, neg_ℤ, Result, int_lt, unsigned_abs, refl}
+use Rattle.std.specs.Prelude.{◌≡◌, Bool, true, false, T, List, [], ◌∷◌, pos, neg_ℤ, Result, int_lt, unsigned_abs, refl}
 use Rattle.std.proofs.Common.{arith}
 use Rattle.std.proofs.lemmas.Int.{ints}
 use Rattle.tariff.specs.declared.generator.GeneratorForm.{GeneratorForm}
 use Rattle.tariff.specs.declared.generator.Generator.{Generator}
 use Rattle.hours.specs.declared.range.Field.{Field}
 use Rattle.hours.specs.declared.range.OutOfRange.{OutOfRange}
-use Rattle.hours.specs.Bounds.{LimitBounds}
-use Rattle.tariff.specs.Bounds.{BidPrices, BidRises, BidSteps, CostBounds}
+use Rattle.tariff.specs.Bounds.{BidBounds, GeneratorBounds}
 use Rattle.hours.specs.Ranges.{field, all_fit, made, all_in}
 
 -- the steps of the bid rise from the minimum load on, and their prices do not fall
@@ -32,14 +31,10 @@ generator_fields f =
 
 -- what the ranges tell of the numbers that are kept
 pub record FormBounds (f : GeneratorForm) : Type 0 where
-  pub prices : BidPrices f.b1 f.b2 f.b3
-  pub rises : BidRises f.b1 f.b2 f.b3
-  pub steps : BidSteps (unsigned_abs f.u1) (unsigned_abs f.u2)
-  pub costs : CostBounds (unsigned_abs f.min_load) (unsigned_abs f.load_cost) (unsigned_abs f.start_up)
-  pub run : LimitBounds (unsigned_abs f.mrt)
-  pub down : LimitBounds (unsigned_abs f.mdt)
-  pub starts : LimitBounds (unsigned_abs f.mds)
-  pub above : unsigned_abs f.min_load ≤ unsigned_abs f.u1
+  pub bid : BidBounds f.b1 (unsigned_abs f.u1) f.b2 (unsigned_abs f.u2) f.b3
+  pub own :
+      GeneratorBounds (unsigned_abs f.min_load) (unsigned_abs f.load_cost) (unsigned_abs f.start_up)
+      (unsigned_abs f.mrt) (unsigned_abs f.mdt) (unsigned_abs f.mds) (unsigned_abs f.u1)
 
 tested : (b : Bool) → T b → b ≡ true
 tested true t = refl
@@ -60,14 +55,18 @@ form_bounds f h =
     let q₂ = k.1.1.1.1.1.1.1.1.1.1.0 in
     let p₃ = k.1.1.1.1.1.1.1.1.1.1.1.0 in
     record {
-      prices = (omega (arith, ints), omega (arith, ints), omega (arith, ints));
-      rises = (tested _ p₂.0.le, tested _ p₃.0.le);
-      steps = (omega (arith, ints), omega (arith, ints));
-      costs = (omega (arith, ints), omega (arith, ints), omega (arith, ints));
-      run = (omega (arith, ints), omega (arith, ints));
-      down = (omega (arith, ints), omega (arith, ints));
-      starts = (omega (arith, ints), omega (arith, ints));
-      above = omega (arith, ints);
+      bid = record {
+        prices = (omega (arith, ints), omega (arith, ints), omega (arith, ints));
+        rises = (tested _ p₂.0.le, tested _ p₃.0.le);
+        steps = (omega (arith, ints), omega (arith, ints));
+      };
+      own = record {
+        costs = (omega (arith, ints), omega (arith, ints), omega (arith, ints));
+        run = (omega (arith, ints), omega (arith, ints));
+        down = (omega (arith, ints), omega (arith, ints));
+        starts = (omega (arith, ints), omega (arith, ints));
+        above = omega (arith, ints);
+      };
     }
 
 abbrev pub generator_made : (f : GeneratorForm) → all_fit (generator_fields f) ≡ true → Generator
@@ -81,12 +80,8 @@ generator_made f h =
       mdt = unsigned_abs f.mdt;
       mds = unsigned_abs f.mds;
       carried_in = int_lt (pos 0) f.carried;
-      bid = record { b1 = f.b1; u1 = unsigned_abs f.u1; b2 = f.b2; u2 = unsigned_abs f.u2; b3 = f.b3; prices = k.prices; rises = k.rises; steps = k.steps };
-      costs = k.costs;
-      run = k.run;
-      down = k.down;
-      starts = k.starts;
-      above = k.above;
+      bid = record { b1 = f.b1; u1 = unsigned_abs f.u1; b2 = f.b2; u2 = unsigned_abs f.u2; b3 = f.b3; bounds = k.bid };
+      bounds = k.own;
     }
 
 abbrev pub generator_of : GeneratorForm → Result Generator OutOfRange

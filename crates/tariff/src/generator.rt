@@ -1,6 +1,4 @@
-ghost use Rattle.std.specs.Prelude.{◌≤◌};
-ghost use Rattle.hours.specs.Bounds.{LimitBounds};
-ghost use Rattle.tariff.specs.Bounds.{BidPrices, BidRises, BidSteps, CostBounds};
+ghost use Rattle.tariff.specs.Bounds.{BidBounds, GeneratorBounds};
 
 mod registering;
 
@@ -29,9 +27,7 @@ pub struct EnergyBid {
     pub b2: i32,
     pub u2: u32,
     pub b3: i32,
-    ghost prices: { BidPrices b1 b2 b3 },
-    ghost rises: { BidRises b1 b2 b3 },
-    ghost steps: { BidSteps u1 u2 },
+    ghost bounds: { BidBounds b1 u1 b2 u2 b3 },
 }
 
 // A generator: minimum load in kWh, the cost of running at it for an hour and of a start-up in cents, minimum run and
@@ -46,9 +42,5 @@ pub struct Generator {
     pub mds: u8,
     pub carried_in: bool,
     pub bid: EnergyBid,
-    ghost costs: { CostBounds min_load load_cost start_up },
-    ghost run: { LimitBounds mrt },
-    ghost down: { LimitBounds mdt },
-    ghost starts: { LimitBounds mds },
-    ghost above: { min_load ≤ bid.u1 },
+    ghost bounds: { GeneratorBounds min_load load_cost start_up mrt mdt mds bid.u1 },
 }

@@ -12,12 +12,10 @@ returns-in_err-check c =
     refused-is _ (generator_fields c.args.form.now) refl (generator_made c.args.form.now) _ _ _ p.1 p.2 c.in_err-check.ensures
 
 pub invariant_of-bid : goal.invariant_of-bid
-invariant_of-bid c = let k = bounds-read c.args.form.now c.in_ok-check.ensures.test in record { prices = k.prices; rises = k.rises; steps = k.steps }
+invariant_of-bid c = record { bounds = (bounds-read c.args.form.now c.in_ok-check.ensures.test).bid }
 
 pub invariant_of-result : goal.invariant_of-result
-invariant_of-result c =
-    let k = bounds-read c.args.form.now c.in_ok-check.ensures.test in
-    record { costs = k.costs; run = k.run; down = k.down; starts = k.starts; above = k.above }
+invariant_of-result c = record { bounds = (bounds-read c.args.form.now c.in_ok-check.ensures.test).own }
 
 pub returns : goal.returns
 returns c =
