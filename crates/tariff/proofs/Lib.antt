@@ -3,7 +3,7 @@ pub mod Forms
 pub mod Areas
 pub mod Arrays
 pub mod Hours
+pub mod HourKinds
 pub mod Sizes
 pub mod Sums
-pub mod Turns
 pub mod Uplifts

@@ -1,9 +1,8 @@
 -- An uplift is paid exactly when cost passes revenue by half a cent or more.
-use Rattle.std.proofs.Common.{◌≡◌, ℕ, zero, suc, ◌*◌, ◌<◌, ◌≤◌, ℤ, pos, negsuc, ◌-ℤ◌, neg_ℤ, nat_abs, ◌≤ℤ◌, refl, arith}
+use Rattle.std.proofs.Common.{◌≡◌, ℕ, zero, suc, ◌<◌, ◌≤◌, ℤ, pos, negsuc, ◌-ℤ◌, neg_ℤ, ◌≤ℤ◌, refl, arith}
 use Rattle.std.proofs.lemmas.Int.{ints}
 use Rattle.money.specs.Amounts.{or_zero}
 use Rattle.money.specs.Rounding.{nearest, rounded}
-use Rattle.money.proofs.Rounds.{rounded-size, or_zero-size}
 use Rattle.tariff.specs.Costs.{Uplifted}
 
 nothing_below : (m : ℕ) → or_zero (neg_ℤ (pos m)) ≡ 0
@@ -23,6 +22,3 @@ uplifted cost earned = record {
   paid_only_if_cost_passes = λ h. let k = paid_above (cost -ℤ earned) h in omega (arith, ints);
   paid_whenever_cost_passes = λ h. above_paid (cost -ℤ earned) (omega (arith, ints));
 }
-
-pub uplift-size : (z : ℤ) (n : ℕ) → nat_abs z ≤ 1000 * n → or_zero (rounded z) ≤ n
-uplift-size z n h = omega (arith, or_zero-size (rounded z), rounded-size z n h)

@@ -2,7 +2,7 @@ use Rattle.std.proofs.Common.{◌+◌, sym, arith, rules}
 use Rattle.commitment.specs.Stretches.{listed}
 use Rattle.tariff.specs.Costs.{kinds_from}
 use Rattle.tariff.proofs.Arrays.{made_each}
-use Rattle.tariff.proofs.Turns.{length-kinds_from, get_or-kinds_from}
+use Rattle.tariff.proofs.HourKinds.{length-kinds_from, get_or-kinds_from}
 use Rattle.tariff.proofs.cost.account.kinds_in.Goals as goal
 
 pub returns : goal.returns

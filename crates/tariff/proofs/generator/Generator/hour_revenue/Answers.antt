@@ -4,12 +4,12 @@ use Rattle.tariff.specs.Costs.{hour_revenue}
 use Rattle.tariff.proofs.Sizes.{revenue-size}
 use Rattle.tariff.proofs.generator.Generator.hour_revenue.Goals as goal
 
-pub returns-in-SelfCommitted : goal.returns-in-SelfCommitted
-returns-in-SelfCommitted c =
+pub returns-in-SelfCommitted-clause-bound : goal.returns-in-SelfCommitted-clause-bound
+returns-in-SelfCommitted-clause-bound c =
     let e : to_z w64 (of_z w64 c.cost.result) ≡ hour_revenue c.args.self.now c.args.kind c.args.hour.now c.args.price.now = search (rules, to_z-of_z) in
-    record { value = e; bound = subst (λ z. nat_abs z ≤ 20000000000) (sym e) (revenue-size c.args.self.now c.args.kind c.args.hour.now c.args.price.now) }
+    subst (λ z. nat_abs z ≤ 20000000000) (sym e) (revenue-size c.args.self.now c.args.kind c.args.hour.now c.args.price.now)
 
-pub returns-in-Committed : goal.returns-in-Committed
-returns-in-Committed c =
+pub returns-in-Committed-clause-bound : goal.returns-in-Committed-clause-bound
+returns-in-Committed-clause-bound c =
     let e : to_z w64 (of_z w64 c.product.result) ≡ hour_revenue c.args.self.now c.args.kind c.args.hour.now c.args.price.now = search (rules, to_z-of_z) in
-    record { value = e; bound = subst (λ z. nat_abs z ≤ 20000000000) (sym e) (revenue-size c.args.self.now c.args.kind c.args.hour.now c.args.price.now) }
+    subst (λ z. nat_abs z ≤ 20000000000) (sym e) (revenue-size c.args.self.now c.args.kind c.args.hour.now c.args.price.now)
