@@ -3,7 +3,6 @@
 
 #![tactic(auto)]
 
-mod keys;
 mod members;
 mod pots;
 mod priced;

@@ -1,13 +1,25 @@
 ghost use Rattle.std.specs.Prelude.{◌≡◌, ◌*◌, ◌≤◌, length, sum_by, unsigned_abs};
+ghost use Rattle.figures.specs.Entries.{member_key};
 ghost use Rattle.figures.specs.Standing.{places_in, resources_in, counted};
 ghost use Rattle.figures.specs.Figures.{resource_energy, total_by, member_energy, member_uplift, member_row};
 ghost use Rattle.figures.specs.Quantities.{quantity, most};
 ghost use Rattle.figures.specs.Owners.{RowsOfAll};
 
 use crate::resource::Quantity;
-use crate::standing::{Place, Resource, Standing};
+use crate::standing::{Member, Place, Resource, Standing};
 use money::plus;
 use sharing::MemberRow;
+use table::Keyed;
+
+impl Keyed for Member {
+    type Key = u16;
+
+    ghost key = { member_key };
+
+    fn key(&self) -> u16 {
+        self.id
+    }
+}
 
 // The energy of a member, or of all, in cents.
 pub(crate) fn sum_energy(places: &[Place], resources: &[Resource], member: Option<u16>) -> i64

@@ -1,10 +1,22 @@
 ghost use Rattle.std.specs.Prelude.{◌≡◌, ◌≤◌, pos, if◌then◌else◌, unsigned_abs};
+ghost use Rattle.figures.specs.Entries.{resource_key};
 ghost use Rattle.figures.specs.Standing.{counts};
 ghost use Rattle.figures.specs.Figures.{resource_energy, resource_uplift};
 ghost use Rattle.figures.specs.Quantities.{quantity, most};
 
 use crate::prices::prices_at;
 use crate::standing::{Place, Resource, Unit};
+use table::Keyed;
+
+impl Keyed for Resource {
+    type Key = u16;
+
+    ghost key = { resource_key };
+
+    fn key(&self) -> u16 {
+        self.id
+    }
+}
 
 // What is added up over resources besides energy, and is never below zero.
 #[derive(Clone, Copy)]

@@ -57,7 +57,7 @@ impl Unit {
     pub fn is_generator(self) -> bool
         ensures { result ≡ is_generator self }
     {
-        self.generator().is_some()
+        matches!(self, Unit::Generator(_))
     }
 }
 

@@ -1,25 +1,15 @@
-use Rattle.std.proofs.Common.{not, ◌&&◌, is_some, None, sym, ◌∙◌, arith}
-use Rattle.std.proofs.lemmas.List.{get_or_default}
-use Rattle.std.proofs.lemmas.Bool.{cond-true, cond-false}
-use Rattle.figures.specs.Prices.{hours_before, hour_if, unpriced}
-use Rattle.figures.proofs.First.{answered, passed, unanswered, hour_count, hour_at}
+use Rattle.std.proofs.Common.{◌≡◌, ◌+◌, sym, ap, ◌∙◌, rules, tests, arith}
+use Rattle.std.specs.Option.{option_map}
+use Rattle.std.specs.List.{zip}
+use Rattle.std.proofs.lemmas.Iterator.{YieldsList-from_slice, YieldsList-from_zip}
+use Rattle.std.proofs.lemmas.Iterator.Adapters.{position_from-zero}
+use Rattle.std.proofs.lemmas.Iterator.Consumers.{YieldsList-at}
+use Rattle.std.proofs.lemmas.Iterator.Search.{position_from_yields_List}
+use Rattle.figures.proofs.First.{bare, first_bare}
 use Rattle.figures.proofs.prices.missing_hour.Goals as goal
 
-pub returns-then-is_unpriced : goal.returns-then-is_unpriced
-returns-then-is_unpriced c =
-    let i = c.loop-i.i in
-    let slot = get_or_default c.args.slots.now i c.index-slots-i.result None (omega arith) in
-    let price = get_or_default c.args.prices.now i c.index-prices-i.result None (omega arith) in
-    sym (answered (hour_if (unpriced c.args.slots.now c.args.prices.now)) hours_before i i (omega (arith, hour_count)) (hour_at i (omega arith)) c.loop-i.invariant
-    _ (cond-true _ _ _ (sym (c.if-is_unpriced.ensures ∙ (λ k. is_some (slot k) && not (is_some (price k)))))))
-
-pub loop-i-preserved : goal.loop-i-preserved
-loop-i-preserved c =
-    let i = c.loop-i.i in
-    let slot = get_or_default c.args.slots.now i c.index-slots-i.result None (omega arith) in
-    let price = get_or_default c.args.prices.now i c.index-prices-i.result None (omega arith) in
-    passed (hour_if (unpriced c.args.slots.now c.args.prices.now)) hours_before i i (omega (arith, hour_count)) (hour_at i (omega arith)) c.loop-i.invariant
-    (cond-false _ _ _ (sym (c.if-is_unpriced.ensures ∙ (λ k. is_some (slot k) && not (is_some (price k))))))
-
 pub returns : goal.returns
-returns c = sym (unanswered (hour_if (unpriced c.args.slots.now c.args.prices.now)) hours_before c.loop-i.i (omega (arith, hour_count)) c.loop-i.invariant)
+returns c =
+    let told : c.map.result ≡ option_map (λ i. i + 1) c.position.result = search rules in
+    let found = position_from_yields_List bare c.position.new.self _ c.position.result c.position.ensures.ran (YieldsList-from_zip (YieldsList-at c.zip.ensures.first (YieldsList-from_slice c.args.slots.now cc)) (YieldsList-from_slice c.args.prices.now cc)) (λ x b q k. search (rules, tests)) in
+    told ∙ ap (option_map (λ i. i + 1)) (found ∙ position_from-zero bare (zip c.args.slots.now c.args.prices.now)) ∙ sym (first_bare c.args.slots.now c.args.prices.now (omega arith) (omega arith))

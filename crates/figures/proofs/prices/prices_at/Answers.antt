@@ -1,21 +1,16 @@
-use Rattle.std.proofs.Common.{replicate, None, unwrap_or, sym, ap, ◌∙◌}
-use Rattle.std.proofs.lemmas.Bool.{cond-true, cond-false, eq-eqb, ne_eqb}
-use Rattle.figures.specs.Prices.{prices_if}
-use Rattle.figures.proofs.First.{answered, passed, unanswered}
+use Rattle.std.proofs.Common.{◌≡◌, ◌==◌, rules, tests}
+use Rattle.std.proofs.lemmas.Iterator.{YieldsList-from_slice}
+use Rattle.std.proofs.lemmas.Iterator.Search.{find_from_yields_List}
+use Rattle.std.specs.List.{find}
+use Rattle.std.specs.Option.{option_map}
+use Rattle.std.proofs.lemmas.Grind.{common_steps}
+use Rattle.std.proofs.Common.{arith}
+use Rattle.figures.specs.declared.standing.Place.{Place}
+use Rattle.figures.proofs.First.{first_found}
 use Rattle.figures.proofs.prices.prices_at.Goals as goal
-
-pub returns-then-place-id : goal.returns-then-place-id
-returns-then-place-id c =
-    sym (ap (λ o. unwrap_or o (replicate 24 None))
-    (answered (prices_if c.args.id) c.args.places.now c.loop-place.place-index c.place-item.result c.loop-place-test.true c.place-item.is c.loop-place.invariant
-    _ (cond-true _ _ _ (eq-eqb _ _ c.if-place-id.true))))
-
-pub loop-place-preserved : goal.loop-place-preserved
-loop-place-preserved c =
-    passed (prices_if c.args.id) c.args.places.now c.loop-place.place-index c.place-item.result c.loop-place-test.true c.place-item.is c.loop-place.invariant
-    (cond-false _ _ _ (ne_eqb _ _ c.if-place-id.false))
 
 pub returns : goal.returns
 returns c =
-    ap (λ d. d.slots) c.empty.ensures
-    ∙ sym (ap (λ o. unwrap_or o (replicate 24 None)) (unanswered (prices_if c.args.id) c.args.places.now c.loop-place.place-index c.loop-place-test.false c.loop-place.invariant))
+    let found : option_map (λ p. p.now) c.find.result ≡ find (λ (p : Place). p.id == c.args.id) c.args.places.now = find_from_yields_List (λ (p : Place). p.id == c.args.id) _ _ c.find.result c.find.ensures.ran (YieldsList-from_slice c.args.places.now cc) (λ x b q k. search (rules, tests)) in
+    let first = first_found (λ (p : Place). p.id == c.args.id) (λ p. p.prices.slots) c.args.places.now in
+    grind (arith, common_steps)
