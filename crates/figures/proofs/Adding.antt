@@ -1,10 +1,22 @@
--- Sums along a list, of amounts and of quantities alike, and the loops that add them up.
-use Rattle.std.proofs.Common.{◌≡◌, ℕ, ◌+◌, ◌*◌, ◌^◌, ◌<◌, ◌≤◌, Bool, true, false, cond, List, [], ◌∷◌, length, get_or, take, ℤ, pos, ◌+ℤ◌, nat_abs, fold, filter, sym, refl, ap, ◌∙◌, add-zero, add_assoc, add_comm, zero-add, mul-one, mul-add, arith, w64, SFits, to_z, of_z}
+-- Sums along a list, of amounts and of quantities alike, and the chains that add them up.
+use Rattle.std.proofs.Common.{◌≡◌, ℕ, ◌+◌, ◌*◌, ◌^◌, ◌≤◌, Bool, true, false, not, cond, List, [], ◌∷◌, ◌++◌, length, ℤ, pos, negsuc, ◌+ℤ◌, nat_abs, fold, filter, Option, sym, refl, ap, ◌∙◌, add-zero, add_assoc, add_comm, zero-add, mul-one, mul-add, length-append, arith, w64, to_z, of_z}
 use lib.IntN.{+ℤ_idl, +ℤ_idr, +ℤ_assoc, +ℤ_comm}
+use denote.Param.Members.{Mut}
+use Rattle.std.specs.declared.iter.Map.{Map}
+use Rattle.std.specs.Bool.{⊤}
+use Rattle.std.specs.Fn.{Called}
+use Rattle.std.specs.Int.{saturate_to_bits}
+use Rattle.std.specs.Iterator.{Drains, FoldsItems}
+use Rattle.std.specs.Iterator.Adapters.{map_source, map_callee, map_steps}
+use Rattle.std.proofs.iter.runs.Made.{run, seen, to_end}
+use Rattle.std.proofs.lemmas.Fn.{fold_over}
+use Rattle.std.proofs.lemmas.Int.{to_z-of_z, fits_signed_from_abs}
+use Rattle.std.proofs.lemmas.Iterator.{YieldsList}
+use Rattle.std.proofs.lemmas.Iterator.Adapters.{YieldsAtMost, fits_from_length}
+use Rattle.std.proofs.lemmas.List.Filters.{length-filter_both}
+use Rattle.std.proofs.lemmas.List.Sums.{fold_push}
 use Rattle.std.proofs.lemmas.Nat.{mul-le}
-use Rattle.std.proofs.lemmas.List.{take_all}
-use Rattle.std.proofs.lemmas.Int.{to_z-of_z}
-use Rattle.std.proofs.lemmas.List.Sums.{fold_more}
+use Rattle.money.proofs.Products.{abs-add-le}
 
 -- what can be added up, in any order
 pub record Sums (A : Type 0) : Type 0 where
@@ -52,28 +64,47 @@ over_kept s p f (x ∷ xs) =
     ∙ ap (s.plus (part s p f x)) (over_kept s p f xs)
     ∙ sym (over-cons s (part s p f) x xs)
 
--- the first i are added up, none of them larger than n
-abbrev pub Added : {A X : Type 0} → Sums A → (X → A) → ℕ → List X → A → ℕ → Type 0
-Added s f n xs total i = (total ≡ over s f (take i xs)) × (s.size total ≤ n * i)
+-- no more pass than there are
+pub length_kept : {X : Type 0} (p : X → Bool) (xs : List X) → length (filter p xs) ≤ length xs
+length_kept p xs = omega (arith, length-filter_both p (λ x. not (p x)) (λ _. refl) xs)
 
-module _ {A X : Type 0} (s : Sums A) (f : X → A) (n : ℕ) (xs : List X) (total : A) (i : ℕ) (inv : Added s f n xs total i) where
-  -- a is what x adds
-  pub add-more : (x : X) (a next : A) → i < length xs → x ≡ get_or xs i x → a ≡ f x → next ≡ s.plus total a → s.size next ≤ s.size total + n → Added s f n xs next (i + 1)
-  add-more x a next h is adds e small =
-      let room : n * (i + 1) ≡ n * i + n = mul-add n i 1 ∙ ap (λ m. n * i + m) (mul-one n) in
-      (e ∙ (λ k. s.plus (inv.0 k) ((adds ∙ ap f is) k)) ∙ sym (fold_more (λ b y. s.plus b (f y)) s.none xs i x h), omega arith)
+-- what `plus` gives, of numbers read from their bits: far from the ends of i64 it is their sum
+abbrev pub held : ℤ → ℤ → ℤ
+held a x = saturate_to_bits 63 (to_z w64 (of_z w64 a) +ℤ to_z w64 (of_z w64 x))
 
-  pub add-all : length xs ≤ i → i ≤ 32 → (total ≡ over s f xs) × (s.size total ≤ n * 32)
-  add-all h few = (inv.0 ∙ ap (over s f) (take_all i xs h), (let k = mul-le n i n 32 (omega arith) few in omega arith))
+within : (z : ℤ) → nat_abs z ≤ 2 ^ 61 → saturate_to_bits 63 z ≡ z
+within (pos n) h = ap pos (omega arith)
+within (negsuc n) h = ap negsuc (omega arith)
 
--- a sum of amounts far from the ends of i64 is exact
-pub exactly : (n : ℕ) (total r x : ℤ) → n ≤ 2 ^ 50 → nat_abs total ≤ 2 ^ 55 → SFits w64 r → SFits w64 x
-    → (nat_abs total ≤ 2 ^ 60 → nat_abs (to_z w64 (of_z w64 x)) ≤ 2 ^ 60 → r ≡ total +ℤ to_z w64 (of_z w64 x))
-    → nat_abs r ≤ nat_abs total + nat_abs (to_z w64 (of_z w64 x)) → nat_abs x ≤ n
-    → (to_z w64 (of_z w64 r) ≡ total +ℤ x) × (nat_abs (to_z w64 (of_z w64 r)) ≤ nat_abs total + n)
-exactly n total r x far near fit fit' exact b small =
-    let back = to_z-of_z w64 r fit in
-    let same = to_z-of_z w64 x fit' in
-    let size = ap nat_abs back in
-    let added = ap nat_abs same in
-    (back ∙ exact (omega arith) (omega arith) ∙ ap (λ y. total +ℤ y) same, omega arith)
+exact : (a x : ℤ) → nat_abs a ≤ 2 ^ 60 → nat_abs x ≤ 2 ^ 60 → held a x ≡ a +ℤ x
+exact a x h k =
+    let e = to_z-of_z w64 a (fits_signed_from_abs w64 a (omega arith)) in
+    let f = to_z-of_z w64 x (fits_signed_from_abs w64 x (omega arith)) in
+    (λ i. saturate_to_bits 63 (e i +ℤ f i)) ∙ within (a +ℤ x) (omega (arith, abs-add-le a x))
+
+-- the sum of so many, none of them larger than n
+abbrev pub Held : {X : Type 0} → (X → ℤ) → ℕ → List X → ℤ → Type 0
+Held f n xs total = length xs ≤ 32 → (total ≡ over amounts f xs) × (nat_abs total ≤ n * length xs)
+
+held_more : {X : Type 0} (f : X → ℤ) (n : ℕ) (xs : List X) (total next : ℤ) (x : X) → n ≤ 2 ^ 50 → Held f n xs total → next ≡ held total (f x) → nat_abs (f x) ≤ n → Held f n (xs ++ (x ∷ [])) next
+held_more f n xs total next x far so_far is small few =
+    let long : length (xs ++ (x ∷ [])) ≡ length xs + 1 = length-append xs (x ∷ []) in
+    let before = so_far (omega arith) in
+    let most = mul-le n (length xs) (2 ^ 50) 32 far (omega arith) in
+    let sum : next ≡ total +ℤ f x = is ∙ exact total (f x) (omega arith) (omega arith) in
+    let room : n * length (xs ++ (x ∷ [])) ≡ n * length xs + n = ap (λ k. n * k) long ∙ mul-add n (length xs) 1 ∙ ap (λ m. n * length xs + m) (mul-one n) in
+    (sum ∙ ap (λ z. z +ℤ f x) before.0 ∙ sym (fold_push (λ a y. a +ℤ f y) (pos 0) xs x), omega (arith, abs-add-le total (f x), ap nat_abs sum))
+
+-- `fold` along a chain that gives ys, by a closure that calls `plus`
+pub fold_held : {S A X F : Type 0} {steps : S → Option A → S → Type 0} {v : A → X} {s : S} {ys : List X} (g : Mut F (ℤ × (A × Unit {0})) ℤ) (f : X → ℤ) (n : ℕ) {callee : F} (r : ℤ) → FoldsItems steps g s callee (pos 0) r → YieldsList steps v s ys → n ≤ 2 ^ 50
+    → ((a : ℤ) (x : A) (b : ℤ) (q : F) → Called g callee (a, (x, tt)) b q → (q ≡ callee) × (b ≡ held a (f (v x))) × (nat_abs (f (v x)) ≤ n)) → Held f n ys r
+fold_held {S} {A} {X} {F} {steps} {v} {s} {ys} g f n {callee} r ran road far call =
+    fold_over steps v g (Held f n) callee (λ xs a x b q so_far k. let turn = call a x b q k in (held_more f n xs a b (v x) far so_far turn.1 turn.2, turn.0)) s ys (pos 0) r road.runs (λ few. (refl, omega arith)) ran
+
+-- `sum` along a chain of at most 32, none of them larger than an uplift can be
+pub sum_small : {S A F : Type 0} {steps : S → Option A → S → Type 0} {s : Map S F} (g : Mut F (A × Unit {0}) ℕ) (callee : F) (r : ℕ) → ((xs : List ℕ) × (⊤ → Drains (map_steps steps g) s xs) × (r ≡ fold (λ a x. a + x) 0 xs)) → YieldsAtMost steps (map_source s) 32 → map_callee s ≡ callee
+    → ((x : A) (n : ℕ) (q : F) → Called g callee (x, tt) n q → (q ≡ callee) × (n ≤ 1224000000)) → r ≤ 39168000000
+sum_small {S} {A} {F} {steps} {s} g callee r ran few is call =
+    let fits = fits_from_length g callee 32 39168000001 few is (omega arith) call in
+    let below = fits (run (map_steps steps g) s ran.0 true (to_end (map_steps steps g) s ran.0 (ran.1 tt))) (seen _) refl in
+    omega arith

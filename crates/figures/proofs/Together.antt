@@ -1,5 +1,5 @@
 -- The rows of all members together.
-use Rattle.std.proofs.Common.{◌≡◌, ℕ, zero, suc, ◌+◌, ◌*◌, ◌≤◌, List, [], ◌∷◌, map, length, sum_by, sum, refl, ap, ◌∙◌, subst, add-one, arith}
+use Rattle.std.proofs.Common.{◌≡◌, ℕ, zero, suc, ◌+◌, ◌*◌, ◌≤◌, List, [], ◌∷◌, map, length, Some, sum_by, sum, refl, ap, ◌∙◌, subst, add-one, arith}
 use Rattle.std.specs.List.{AllByRecursion}
 use Rattle.std.proofs.lemmas.Nat.{mul-le}
 use Rattle.std.proofs.lemmas.List.Sums.{sum-map}
@@ -12,8 +12,8 @@ use Rattle.sharing.specs.declared.rows.MemberRow.{MemberRow}
 use Rattle.figures.specs.declared.standing.Resource.{Resource}
 use Rattle.figures.specs.Figures.{resource_demand, resource_deviation, member_row}
 use Rattle.figures.specs.Owners.{Owners, RowsOfAll, member_rows}
-use Rattle.figures.specs.Standing.{of_member}
-use Rattle.figures.proofs.Adding.{quantities}
+use Rattle.figures.specs.Standing.{counts, of_member}
+use Rattle.figures.proofs.Adding.{quantities, length_kept}
 use Rattle.figures.proofs.Exchange.{exchange}
 
 day-size : (f : ℕ → ℕ) (n : ℕ) → ((i : ℕ) → f i ≤ n) → (i : ℕ) → Added f n (add_hours f i) i
@@ -36,6 +36,13 @@ all-size f n small rs few =
     let k = sum_by_le f n rs (each (λ r. f r ≤ n) small rs) in
     let m = mul-le (length rs) n 32 n few (omega arith) in
     omega arith
+
+-- what a member's resources come to
+pub demand_within : (rs : List Resource) → length rs ≤ 32 → (id : ℕ) → sum_by resource_demand (of_member id rs) ≤ 76800000
+demand_within rs few id = all-size resource_demand 2400000 demand_of (of_member id rs) (omega (arith, length_kept (counts (Some id)) rs))
+
+pub deviation_within : (rs : List Resource) → length rs ≤ 32 → (id : ℕ) → sum_by resource_deviation (of_member id rs) ≤ 153600000
+deviation_within rs few id = all-size resource_deviation 4800000 deviation_of (of_member id rs) (omega (arith, length_kept (counts (Some id)) rs))
 
 pub map-map : {X Y Z : Type 0} (g : Y → Z) (f : X → Y) (xs : List X) → map g (map f xs) ≡ map (λ x. g (f x)) xs
 map-map g f [] = refl

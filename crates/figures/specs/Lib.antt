@@ -2,7 +2,6 @@ pub mod Entries
 pub mod Standing
 pub mod Prices
 pub mod Figures
-pub mod Quantities
 pub mod Pots
 pub mod Priced
 pub mod Owners

@@ -4,8 +4,6 @@ ghost use Rattle.figures.specs.Standing.{places_in, resources_in};
 ghost use Rattle.figures.specs.Pots.{pots};
 ghost use Rattle.figures.specs.Owners.{ByMembers};
 
-use crate::members::{sum_energy, sum_quantity};
-use crate::resource::Quantity;
 use crate::standing::Standing;
 use refusal::Refusal;
 
@@ -16,16 +14,8 @@ impl<'a> Standing<'a> {
         ensures members { IfOk result (λ p. ByMembers (places_in self.now) (resources_in self.now) p) }
         ensures bound { IfOk result (λ p. (unsigned_abs p.0 ≤ most_total) × (p.1 ≤ most_total)) }
     {
-        match self.missing_price() {
-            Some(missing) => Err(Refusal::PriceMissing {
-                resource: missing.resource,
-                hour: missing.hour,
-            }),
-            None => {
-                let energy = sum_energy(self.places, self.resources, None);
-                let uplift = sum_quantity(Quantity::Uplift, self.places, self.resources, None);
-                Ok((energy, uplift))
-            }
-        }
+        self.missing_price().map_or(Ok(()), Err)?;
+        let uplift = self.sum_of(None, |resource| resource.uplift(self.places));
+        Ok((self.sum_energy(None), uplift))
     }
 }

@@ -26,10 +26,8 @@ impl Resource {
     pub fn priced(&self, places: &[Place]) -> Result<Day<Price>, Refusal>
         ensures { result ≡ priced_day places.now self.now }
     {
-        match self.missing_price(places) {
-            Some(missing) => Err(Refusal::from(missing)),
-            None => Ok(prices_at(places, self.place)),
-        }
+        self.missing_price(places).map_or(Ok(()), Err)?;
+        Ok(prices_at(places, self.place))
     }
 }
 
@@ -39,9 +37,7 @@ impl<'a> Standing<'a> {
         ensures value { result ≡ unless_missing (missing (places_in self.now) (of_member member (resources_in self.now))) (member_energy (places_in self.now) (resources_in self.now) member) }
         ensures bound { IfOk result (λ e. unsigned_abs e ≤ 46080000000) }
     {
-        match self.missing_price_of(member) {
-            Some(missing) => Err(Refusal::from(missing)),
-            None => Ok(self.energy_of(member)),
-        }
+        self.missing_price_of(member).map_or(Ok(()), Err)?;
+        Ok(self.energy_of(member))
     }
 }

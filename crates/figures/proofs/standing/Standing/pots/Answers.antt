@@ -1,26 +1,29 @@
-use Rattle.std.proofs.Common.{◌≡◌, nat_abs, None, Ok, sum_by, sym, ap, ◌∙◌, arith, w64}
+use Rattle.std.proofs.Common.{◌≡◌, None, Ok, sum_by, sym, ap, ◌∙◌, rules, w64, to_z, of_z}
 use Rattle.std.proofs.lemmas.Int.{to_z-of_z}
 use Rattle.figures.specs.Figures.{resource_energy, resource_uplift, total_by}
 use Rattle.figures.specs.Pots.{neutrality_pot, uplift_pot, unless_missing}
-use Rattle.figures.specs.Standing.{counted}
 use Rattle.figures.proofs.Adding.{amounts, quantities}
 use Rattle.figures.proofs.Exchange.{all_count, exchange}
 use Rattle.figures.proofs.standing.Standing.pots.Goals as goal
 
-pub returns-in-None : goal.returns-in-None
-returns-in-None c =
-    let places = c.args.self.now.places.now in
-    let rs = c.args.self.now.resources.now in
-    let back = to_z-of_z w64 c.sum_energy-energy.result (record { sfits = c.sum_energy-energy.type_inv }) in
-    let added : c.sum_energy-energy.result ≡ total_by (resource_energy places) (counted None rs) = c.sum_energy-energy.ensures.value in
-    let energy : _ ≡ neutrality_pot places rs = back ∙ added ∙ ap (total_by (resource_energy places)) (all_count rs) in
-    let paid : c.sum_quantity-uplift.result ≡ sum_by (resource_uplift places) (counted None rs) = c.sum_quantity-uplift.ensures.value in
-    let uplift : _ ≡ uplift_pot places rs = paid ∙ ap (sum_by (resource_uplift places)) (all_count rs) in
+energy : (c : goal.After-sum_energy) → to_z w64 (of_z w64 c.sum_energy.result) ≡ neutrality_pot c.args.self.now.places.now c.args.self.now.resources.now
+energy c =
+    let s = c.args.self.now in
+    to_z-of_z w64 c.sum_energy.result (record { sfits = c.sum_energy.type_inv }) ∙ c.sum_energy.ensures.value ∙ ap (total_by (resource_energy s.places.now)) (all_count s.resources.now)
+
+uplift : (c : goal.After-sum_energy) → c.sum_of-uplift.result ≡ uplift_pot c.args.self.now.places.now c.args.self.now.resources.now
+uplift c = let s = c.args.self.now in c.sum_of-uplift.ensures.value ∙ ap (sum_by (resource_uplift s.places.now)) (all_count s.resources.now)
+
+pub returns-clause-reply : goal.returns-clause-reply
+returns-clause-reply c =
+    let s = c.args.self.now in
+    let none : c.missing_price.result ≡ None = search rules in
+    (λ k. Ok (energy c k, uplift c k)) ∙ ap (λ o. unless_missing o (neutrality_pot s.places.now s.resources.now, uplift_pot s.places.now s.resources.now)) (sym none ∙ c.missing_price.ensures)
+
+pub returns-clause-members : goal.returns-clause-members
+returns-clause-members c =
+    let s = c.args.self.now in
     record {
-      reply = (λ k. Ok (energy k, uplift k)) ∙ ap (λ o. unless_missing o (neutrality_pot places rs, uplift_pot places rs)) c.in-None.ensures;
-      members = record {
-        energies = λ ids owners. exchange amounts (resource_energy places) ids rs owners ∙ sym energy;
-        uplifts = λ ids owners. exchange quantities (resource_uplift places) ids rs owners ∙ sym uplift;
-      };
-      bound = (omega (arith, ap nat_abs back, c.sum_energy-energy.ensures.bound), omega (arith, c.sum_quantity-uplift.ensures.bound));
+      energies = λ ids owners. exchange amounts (resource_energy s.places.now) ids s.resources.now owners ∙ sym (energy c);
+      uplifts = λ ids owners. exchange quantities (resource_uplift s.places.now) ids s.resources.now owners ∙ sym (uplift c);
     }
