@@ -1,5 +1,6 @@
 -- The rows of all members together.
 use Rattle.std.proofs.Common.{◌≡◌, ℕ, zero, suc, ◌+◌, ◌*◌, ◌≤◌, List, [], ◌∷◌, map, length, Some, sum_by, sum, refl, ap, ◌∙◌, subst, add-one, arith}
+use mathlib.Core.List.{map-map}
 use Rattle.std.specs.List.{AllByRecursion}
 use Rattle.std.proofs.lemmas.Nat.{mul-le}
 use Rattle.std.proofs.lemmas.List.Sums.{sum-map}
@@ -43,10 +44,6 @@ demand_within rs few id = all-size resource_demand 2400000 demand_of (of_member 
 
 pub deviation_within : (rs : List Resource) → length rs ≤ 32 → (id : ℕ) → sum_by resource_deviation (of_member id rs) ≤ 153600000
 deviation_within rs few id = all-size resource_deviation 4800000 deviation_of (of_member id rs) (omega (arith, length_kept (counts (Some id)) rs))
-
-pub map-map : {X Y Z : Type 0} (g : Y → Z) (f : X → Y) (xs : List X) → map g (map f xs) ≡ map (λ x. g (f x)) xs
-map-map g f [] = refl
-map-map g f (x ∷ xs) = ap (λ l. g (f x) ∷ l) (map-map g f xs)
 
 -- a column of the rows that is what each member's resources come to
 column : (f : Resource → ℕ) (g : MemberRow → ℕ) (rs : List Resource) → ((id : ℕ) → g (member_row rs id) ≡ sum_by f (of_member id rs))

@@ -13,7 +13,8 @@ pub struct Roll<'a> {
     ghost few: { length members.now ≤ 16 },
 }
 
-// The rows of a pool's members, in their order: the first `count` of the items.
+// The rows of a pool's members, in their order: the first `count` of the items. Without a heap, and copied as a value, they
+// have room for as many as a pool can have.
 #[derive(Clone, Copy)]
 pub struct Rows {
     items: [MemberRow; 16],

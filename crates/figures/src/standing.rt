@@ -6,7 +6,7 @@ use tariff::Generator;
 mod entries;
 mod lending;
 
-// What a resource is registered as.
+// What a resource is registered as. No Option: a load is a thing with a name of its own, and not a generator that is missing.
 #[derive(Clone, Copy)]
 pub enum Unit {
     Generator(Generator),
