@@ -3,4 +3,3 @@ pub mod Exchange
 pub mod Fills
 pub mod First
 pub mod Together
-pub mod Made

@@ -57,31 +57,27 @@ impl Resource {
     }
 }
 
-fn first_missing(
-    places: &[Place],
-    resources: &[Resource],
-    member: Option<u16>,
-) -> Option<MissingPrice>
-    ensures { result ≡ missing places.now (counted member resources.now) }
-{
-    resources
-        .iter()
-        .filter(|resource| resource.counts(member))
-        .find_map(|resource| resource.missing_price(places))
-}
-
 impl<'a> Standing<'a> {
+    fn first_missing(&self, member: Option<u16>) -> Option<MissingPrice>
+        ensures { result ≡ missing (places_in self.now) (counted member (resources_in self.now)) }
+    {
+        self.resources
+            .iter()
+            .filter(|resource| resource.counts(member))
+            .find_map(|resource| resource.missing_price(self.places))
+    }
+
     // The first hour record without its price, by the order of the resources and then by hour.
     pub fn missing_price(&self) -> Option<MissingPrice>
         ensures { result ≡ missing (places_in self.now) (resources_in self.now) }
     {
-        first_missing(self.places, self.resources, None)
+        self.first_missing(None)
     }
 
     // The same among a member's resources.
     pub fn missing_price_of(&self, member: u16) -> Option<MissingPrice>
         ensures { result ≡ missing (places_in self.now) (of_member member (resources_in self.now)) }
     {
-        first_missing(self.places, self.resources, Some(member))
+        self.first_missing(Some(member))
     }
 }

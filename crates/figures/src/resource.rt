@@ -22,10 +22,7 @@ impl Resource {
     pub(crate) fn counts(&self, member: Option<u16>) -> bool
         ensures { result ≡ counts member self.now }
     {
-        match member {
-            Some(id) => self.member == id,
-            None => true,
-        }
+        member.is_none_or(|id| self.member == id)
     }
 
     // Its energy lines, added up, in cents.
