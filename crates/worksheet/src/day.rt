@@ -1,7 +1,7 @@
 use crate::cents::Cents;
 use commitment::Stretch;
 use hours::{Day, Hour, HourRecord, OutOfRange, Price};
-use std::io;
+use std::{fmt, io};
 use tariff::{Generator, GeneratorForm, HourKind};
 
 // A generator's day, with the prices of its place.
@@ -10,6 +10,20 @@ pub struct GeneratorDay {
     pub generator: Generator,
     pub hours: Day<HourRecord>,
     pub prices: Day<Price>,
+}
+
+// How a kind of hour is printed.
+#[derive(Clone, Copy)]
+struct KindName(HourKind);
+
+impl fmt::Display for KindName {
+    fn fmt<W: fmt::Write>(&self, f: &mut fmt::Formatter<W>) -> fmt::Result {
+        f.write_str(match self.0 {
+            HourKind::Off => "off",
+            HourKind::Committed => "committed",
+            HourKind::SelfCommitted => "self-committed",
+        })
+    }
 }
 
 impl GeneratorDay {
@@ -54,15 +68,10 @@ impl GeneratorDay {
     pub fn print(&self, rt: &impl Print) -> io::Result<()> {
         self.print_periods(rt)?;
         let kinds = self.generator.kinds(&self.hours);
-        for i in 0..24 {
-            if kinds[i].is_on() {
-                self.print_hour(
-                    rt,
-                    i + 1,
-                    kinds[i],
-                    self.hours.slots[i],
-                    self.prices.slots[i],
-                )?;
+        let slots = self.hours.slots.iter().zip(&self.prices.slots);
+        for (hour, (kind, (record, price))) in (1..=24).zip(kinds.iter().zip(slots)) {
+            if kind.is_on() {
+                self.print_hour(rt, hour, *kind, *record, *price)?;
             }
         }
         for run in tariff::runs(&kinds).as_slice() {
@@ -77,8 +86,7 @@ impl GeneratorDay {
             return println!(rt; "  no self-commitment period");
         }
         for period in periods.as_slice() {
-            let first = period.first;
-            let last = period.last;
+            let Stretch { first, last } = *period;
             println!(rt; "  self-commitment period: hours {first} to {last}")?;
         }
         Ok(())
@@ -87,16 +95,12 @@ impl GeneratorDay {
     fn print_hour(
         &self,
         rt: &impl Print,
-        hour: usize,
+        hour: u8,
         kind: HourKind,
         record: Option<HourRecord>,
         price: Option<Price>,
     ) -> io::Result<()> {
-        let name = match kind {
-            HourKind::Off => "off",
-            HourKind::Committed => "committed",
-            HourKind::SelfCommitted => "self-committed",
-        };
+        let name = KindName(kind);
         let record = HourRecord::counted(record);
         let price = Price::counted(price);
         let cost = Cents(self.generator.hour_cost(kind, &record));
@@ -105,8 +109,7 @@ impl GeneratorDay {
     }
 
     fn print_run(&self, rt: &impl Print, run: Stretch, kinds: &[HourKind; 24]) -> io::Result<()> {
-        let first = run.first;
-        let last = run.last;
+        let Stretch { first, last } = run;
         let start_up = self.generator.start_up;
         if tariff::start_is_paid(run, kinds, self.generator.carried_in) {
             println!(rt; "  run of hours {first} to {last}: start-up {start_up}.000")

@@ -55,23 +55,14 @@ impl PoolDay {
         let rows = self.rows();
         let terms = self.terms();
         print_rows(rt, &rows, &terms)?;
-        let mut neutral = [0; 2];
-        let mut uplift = [0; 2];
-        share_neutrality(
-            rt,
-            terms[0].energy.saturating_add(terms[1].energy),
-            &rows,
-            &mut neutral,
-        )?;
-        share_uplift(rt, terms[0].uplift, &rows, &mut uplift)?;
-        for i in 0..2 {
-            let id = rows[i].id;
-            let amount = terms[i]
-                .energy
-                .saturating_add(terms[i].uplift)
-                .saturating_sub(uplift[i])
-                .saturating_sub(neutral[i]);
-            println!(rt; "  member {id}: amount {amount}")?;
+        let [supply, load] = terms;
+        let neutral = share_neutrality(rt, supply.energy.saturating_add(load.energy), &rows)?;
+        let uplift = share_uplift(rt, supply.uplift, &rows)?;
+        let shares = uplift.iter().zip(&neutral);
+        for (row, (terms, (uplift, neutral))) in rows.iter().zip(terms.iter().zip(shares)) {
+            let paid = terms.energy.saturating_add(terms.uplift);
+            let amount = paid.saturating_sub(*uplift).saturating_sub(*neutral);
+            println!(rt; "  member {}: amount {amount}", row.id)?;
         }
         Ok(())
     }
@@ -91,11 +82,9 @@ fn print_lines(
     hours: &Day<HourRecord>,
     prices: &Day<Price>,
 ) -> io::Result<()> {
-    for i in 0..24 {
-        let slot = hours.slots[i];
+    for (hour, (slot, price)) in (1u8..=24).zip(hours.slots.iter().zip(&prices.slots)) {
         if let Some(record) = slot {
-            let hour = i + 1;
-            let (day_ahead, real_time) = record.lines(&Price::counted(prices.slots[i]));
+            let (day_ahead, real_time) = record.lines(&Price::counted(*price));
             println!(rt;
                 "  resource {id} hour {hour}: day-ahead line {day_ahead} real-time line {real_time}"
             )?;
@@ -105,13 +94,13 @@ fn print_lines(
 }
 
 fn print_rows(rt: &impl Print, rows: &[MemberRow; 2], terms: &[Terms; 2]) -> io::Result<()> {
-    for i in 0..2 {
+    for (row, terms) in rows.iter().zip(terms) {
         let MemberRow {
             id,
             demand,
             deviation,
-        } = rows[i];
-        let Terms { energy, uplift } = terms[i];
+        } = *row;
+        let Terms { energy, uplift } = *terms;
         println!(rt;
             "  member {id}: energy {energy} uplift {uplift} demand {demand} deviation {deviation}"
         )?;
@@ -119,32 +108,28 @@ fn print_rows(rt: &impl Print, rows: &[MemberRow; 2], terms: &[Terms; 2]) -> io:
     Ok(())
 }
 
-// For a pot below zero the shares are those of its size, negated.
-fn share_neutrality(
-    rt: &impl Print,
-    pot: i64,
-    rows: &[MemberRow; 2],
-    out: &mut [i64; 2],
-) -> Result<(), Fault> {
-    println!(rt; "  neutrality pot {pot}, by demand")?;
-    let mut shares = [0; 2];
-    ByDemand.share(pot.saturating_abs(), rows, &mut shares)?;
-    for i in 0..2 {
-        let id = rows[i].id;
-        let size = i64::try_from(shares[i]).unwrap_or(i64::MAX);
-        let share = if pot < 0 { size.saturating_neg() } else { size };
-        out[i] = share;
-        println!(rt; "    member {id}: share {share}")?;
-    }
-    Ok(())
+// Amounts of a pool stay far from the end of the numbers.
+fn signed(share: u64) -> i64 {
+    i64::try_from(share).unwrap_or(i64::MAX)
 }
 
-fn share_uplift(
-    rt: &impl Print,
-    pot: i64,
-    rows: &[MemberRow; 2],
-    out: &mut [i64; 2],
-) -> Result<(), Fault> {
+// For a pot below zero the shares are those of its size, negated.
+fn share_neutrality(rt: &impl Print, pot: i64, rows: &[MemberRow; 2]) -> Result<[i64; 2], Fault> {
+    println!(rt; "  neutrality pot {pot}, by demand")?;
+    let mut sizes = [0; 2];
+    ByDemand.share(pot.saturating_abs(), rows, &mut sizes)?;
+    let shares = sizes.map(|size| if pot < 0 {
+        signed(size).saturating_neg()
+    } else {
+        signed(size)
+    });
+    for (row, share) in rows.iter().zip(&shares) {
+        println!(rt; "    member {}: share {share}", row.id)?;
+    }
+    Ok(shares)
+}
+
+fn share_uplift(rt: &impl Print, pot: i64, rows: &[MemberRow; 2]) -> Result<[i64; 2], Fault> {
     println!(rt; "  uplift pot {pot}, by a tier of rate {RATE} over demand")?;
     let rule = Capped {
         rate: RATE,
@@ -154,14 +139,10 @@ fn share_uplift(
     let mut shares = [0; 2];
     let borne = rule.own_amounts(pot, rows, &mut own)?;
     rule.share(pot, rows, &mut shares)?;
-    let rest = pot.saturating_sub(i64::try_from(borne).unwrap_or(i64::MAX));
+    let rest = pot.saturating_sub(signed(borne));
     println!(rt; "    own amounts {borne}, rest {rest}")?;
-    for i in 0..2 {
-        let id = rows[i].id;
-        let amount = own[i];
-        let share = i64::try_from(shares[i]).unwrap_or(i64::MAX);
-        out[i] = share;
-        println!(rt; "    member {id}: own amount {amount} share {share}")?;
+    for (row, (amount, share)) in rows.iter().zip(own.iter().zip(&shares)) {
+        println!(rt; "    member {}: own amount {amount} share {share}", row.id)?;
     }
-    Ok(())
+    Ok(shares.map(signed))
 }
