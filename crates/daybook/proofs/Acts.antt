@@ -1,12 +1,12 @@
 -- What an act answers, by what its tests told.
-use Rattle.std.proofs.Common.{◌≡◌, ℕ, Bool, true, false, cond, [], ◌∷◌, is_some, Some, None, Ok, Err, Option, Result, sym, refl, ap, ◌∙◌, arith}
+use Rattle.std.proofs.Common.{◌≡◌, ℕ, Bool, true, cond, [], ◌∷◌, is_some, Some, None, Ok, Err, Option, Result, sym, refl, ap, ◌∙◌, arith}
 use Rattle.std.specs.Option.{option_map, option_or, ok_or}
 use Rattle.refusal.specs.declared.cause.Refusal.{Refusal}
 use Rattle.refusal.specs.declared.cause.Refusal.TheVariants.{NotRegistered, InUse, Full, DraftOut}
 use Rattle.refusal.specs.declared.kinds.Kind.TheVariants.{Member, Place, Resource}
 use Rattle.refusal.specs.declared.kinds.Store.TheVariants.{Table}
 use Rattle.figures.specs.declared.standing.Unit.{Unit as Sort}
-use Rattle.std.proofs.lemmas.Bool.{cond-true, cond-false}
+use Rattle.std.proofs.lemmas.Grind.{common_steps}
 use Rattle.figures.specs.declared.standing.Resource.{Resource as Entry}
 use Rattle.figures.specs.Prices.{first}
 use Rattle.daybook.specs.Calls.{Act, brings}
@@ -48,13 +48,9 @@ accepted a v w free is = record {
   holds = is ∙ ap (λ o. unless o (done a v) v) (sym free);
 }
 
-pub found_as_lem : (kind : Sort → Bool) (id : ℕ) (o : Option Entry) (r : Entry) → Ok r ≡ found_as kind id o → (o ≡ Some r) × (is_a kind o ≡ true)
-found_as_lem kind id None r h = let z : ◌≡◌ {A = ℕ} 0 1 = cc in absurd (omega arith)
-found_as_lem kind id (Some x) r h = go (kind x.unit) refl
-  where
-    go : (b : Bool) → kind x.unit ≡ b → (Some x ≡ Some r) × (kind x.unit ≡ true)
-    go true e = (let same : Ok r ≡ Ok x = h ∙ cond-true _ _ _ e in cc, e)
-    go false e = let other : Ok r ≡ Err (NotRegistered id Resource) = h ∙ cond-false _ _ _ e in let z : ◌≡◌ {A = ℕ} 0 1 = cc in absurd (omega arith)
+pub found_is_a : (kind : Sort → Bool) (id : ℕ) (o : Option Entry) (r : Entry) → Ok r ≡ found_as kind id o → is_a kind o ≡ true
+found_is_a kind id None r h = let z : ◌≡◌ {A = ℕ} 0 1 = cc in absurd (omega arith)
+found_is_a kind id (Some x) r h = grind (arith, common_steps)
 
 pub found-is : {X : Type 0} (o : Option X) (x : X) (e : Refusal) → Ok x ≡ ok_or o e → o ≡ Some x
 found-is None x e h = let z : ◌≡◌ {A = ℕ} 0 1 = cc in absurd (omega arith)

@@ -1,13 +1,24 @@
 -- A call whose numbers are read, and one that has a number out of range.
-use Rattle.std.proofs.Common.{◌≡◌, Ok, Err, Result, ap, ◌∙◌}
+use Rattle.std.proofs.Common.{◌≡◌, Ok, Err, Result, ap, ◌∙◌, IsErrAnd}
+use Rattle.std.proofs.lemmas.Result.{err_from_is_err_and}
 use Rattle.refusal.specs.declared.cause.Refusal.{Refusal}
+use Rattle.daybook.specs.declared.book.DayBook.{DayBook}
 use Rattle.daybook.specs.Calls.{Call, Act, asked}
 use Rattle.daybook.specs.Changes.{replied, after_if, Answers, Follows}
 use Rattle.daybook.specs.Due.{due_if}
-use Rattle.daybook.specs.Held.{Held}
+use Rattle.daybook.specs.Held.{Held, held}
+use Rattle.daybook.specs.Laws.{Recorded}
+use Rattle.daybook.proofs.Lawful.{recorded}
 
-pub out_of_range_lem : (c : Call) (v : Held) (r : Result (Unit {0}) Refusal) (y e : Refusal) → r ≡ Err y → y ≡ e → Err e ≡ asked c → Follows c v v r
-out_of_range_lem c v r y e was is out = record { reply = was ∙ ap Err is ∙ ap (λ x. replied (due_if v x)) out; holds = ap (after_if v) out }
+module _ (c : Call) (b : DayBook) where
+  both_clauses : (w : Held) (r : Result (Unit {0}) Refusal) → Follows c (held b) w r → Follows c (held b) w r × Recorded c (held b) w r
+  both_clauses w r f = (f, recorded c (held b) w r f b.prices_whole b.hours_whole)
 
-pub follows_act : (c : Call) (a : Act) (v w : Held) (r : Result (Unit {0}) Refusal) → Ok a ≡ asked c → Answers a v w r → Follows c v w r
-follows_act c a v w r is told = record { reply = told.reply ∙ ap (λ x. replied (due_if v x)) is; holds = told.holds ∙ ap (after_if v) is }
+  -- a `?` that hands on the refusal of a number
+  pub out_of_range : {e : Refusal} (r : Result (Unit {0}) Refusal) → IsErrAnd r (λ y. y ≡ e) → Err e ≡ asked c → Follows c (held b) (held b) r × Recorded c (held b) (held b) r
+  out_of_range r told out =
+      let y = err_from_is_err_and r told in
+      both_clauses (held b) r (record { reply = y.1 ∙ ap Err y.2 ∙ ap (λ x. replied (due_if (held b) x)) out; holds = ap (after_if (held b)) out })
+
+  pub carried_out : (a : Act) (w : Held) (r : Result (Unit {0}) Refusal) → Ok a ≡ asked c → Answers a (held b) w r → Follows c (held b) w r × Recorded c (held b) w r
+  carried_out a w r is told = both_clauses w r (record { reply = told.reply ∙ ap (λ x. replied (due_if (held b) x)) is; holds = told.holds ∙ ap (after_if (held b)) is })

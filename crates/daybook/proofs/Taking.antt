@@ -8,9 +8,6 @@ use Rattle.hours.specs.declared.range.Field.{Field}
 use Rattle.hours.specs.declared.range.OutOfRange.{OutOfRange}
 use Rattle.hours.specs.Ranges.{fits, all_fit, first_out, out_of_range, when_true, made}
 use Rattle.hours.proofs.Ranges.{made-is, refused-is}
-use Rattle.hours.specs.declared.day.Hour.{Hour}
-use Rattle.daybook.specs.declared.id.Id.{Id}
-use Rattle.daybook.specs.Calls.{ids_from, slot_from}
 use Rattle.daybook.specs.Readings.{Reading, both, into, read, behind, front, back}
 
 -- all fit, or the first that does not is told
@@ -68,9 +65,20 @@ small n fs make (Err e) is few =
     let same : 0 + e.field ≡ 0 + first_out 1 fs = (let p = k.1 in cc) in
     omega (arith, same, within fs 1)
 
--- a number that is handed on is the number that came in
-pub handed : {X : Type 0} (f : ℤ → Result X OutOfRange) (n : ℕ) (z : ℤ) → SFits w64 z → (x : Result X OutOfRange) (r : Result X Refusal) → r ≡ behind n x → x ≡ f (to_z w64 (of_z w64 z)) → r ≡ behind n (f z)
-handed f n z fit x r told is = told ∙ ap (behind n) (is ∙ ap f (to_z-of_z w64 z fit))
+-- numbers that are handed on are the numbers that came in
+module _ {X : Type 0} where
+  pub handed : (f : ℤ → X) (a : ℤ) → SFits w64 a → f (to_z w64 (of_z w64 a)) ≡ f a
+  handed f a p i = f (to_z-of_z w64 a p i)
+
+  pub handed_two : (f : ℤ → ℤ → X) (a b : ℤ) → SFits w64 a → SFits w64 b → f (to_z w64 (of_z w64 a)) (to_z w64 (of_z w64 b)) ≡ f a b
+  handed_two f a b p q i = f (to_z-of_z w64 a p i) (to_z-of_z w64 b q i)
+
+  pub handed_three : (f : ℤ → ℤ → ℤ → X) (a b c : ℤ) → SFits w64 a → SFits w64 b → SFits w64 c → f (to_z w64 (of_z w64 a)) (to_z w64 (of_z w64 b)) (to_z w64 (of_z w64 c)) ≡ f a b c
+  handed_three f a b c p q r i = f (to_z-of_z w64 a p i) (to_z-of_z w64 b q i) (to_z-of_z w64 c r i)
+
+  pub handed_four : (f : ℤ → ℤ → ℤ → ℤ → X) (a b c d : ℤ) → SFits w64 a → SFits w64 b → SFits w64 c → SFits w64 d
+      → f (to_z w64 (of_z w64 a)) (to_z w64 (of_z w64 b)) (to_z w64 (of_z w64 c)) (to_z w64 (of_z w64 d)) ≡ f a b c d
+  handed_four f a b c d p q r s i = f (to_z-of_z w64 a p i) (to_z-of_z w64 b q i) (to_z-of_z w64 c r i) (to_z-of_z w64 d s i)
 
 -- what is read where all fit, and where one does not
 module _ {X : Type 0} (r : Reading X) (n : ℕ) where
@@ -128,13 +136,6 @@ module _ {A B C : Type 0} (f : A × B → C) (r : Reading A) (s : Reading B) whe
 
   pub both_read : (n : ℕ) → n ≡ length r.fields → (a : A) → Ok a ≡ read r → (b : B) → Ok b ≡ behind n (made s.fields s.value) → Ok (f (a, b)) ≡ read (into f (both r s))
   both_read n many a is b was = read-into f (both r s) (a, b) (read-both r s n many a is b was)
-
--- the numbers that are handed on to be read as an id and an hour, and as three ids
-pub slot-handed : (id h : ℤ) → SFits w64 id → SFits w64 h → (r : Result (Id × Hour) Refusal) → r ≡ read (slot_from (to_z w64 (of_z w64 id)) (to_z w64 (of_z w64 h))) → r ≡ read (slot_from id h)
-slot-handed id h f g r is = is ∙ (λ i. read (slot_from (to_z-of_z w64 id f i) (to_z-of_z w64 h g i)))
-
-pub ids_handed : (id m p : ℤ) → SFits w64 id → SFits w64 m → SFits w64 p → (r : Result (Id × Id × Id) Refusal) → r ≡ read (ids_from (to_z w64 (of_z w64 id)) (to_z w64 (of_z w64 m)) (to_z w64 (of_z w64 p))) → r ≡ read (ids_from id m p)
-ids_handed id m p f g k r is = is ∙ (λ i. read (ids_from (to_z-of_z w64 id f i) (to_z-of_z w64 m g i) (to_z-of_z w64 p k i)))
 
 -- what was read, back from what was made of it
 module _ {A C : Type 0} (f : A → C) (r : Reading A) where

@@ -3,6 +3,7 @@ pub mod Held
 pub mod Readings
 pub mod Records
 pub mod Calls
+pub mod Parts
 pub mod Due
 pub mod Changes
 pub mod Finding

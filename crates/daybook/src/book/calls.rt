@@ -5,7 +5,7 @@ ghost use Rattle.daybook.specs.Held.{held};
 ghost use Rattle.daybook.specs.Laws.{Recorded, SecondCounts, AsIfNever};
 
 use super::DayBook;
-use crate::id::{Id, behind, read_ids, read_slot};
+use crate::id::{Id, ResourceIds, Slot, behind};
 use figures::Unit;
 use hours::{HourRecord, Price};
 use refusal::Refusal;
@@ -17,7 +17,7 @@ impl<'a> DayBook<'a> {
         ensures follows { Follows (register_member id) (held self.old) (held self.new) result }
         ensures law { Recorded (register_member id) (held self.old) (held self.new) result }
     {
-        let id = behind(0, Id::new(id))?;
+        let id = Id::read(id)?;
         self.enter_member(id)
     }
 
@@ -25,7 +25,7 @@ impl<'a> DayBook<'a> {
         ensures follows { Follows (register_place id) (held self.old) (held self.new) result }
         ensures law { Recorded (register_place id) (held self.old) (held self.new) result }
     {
-        let id = behind(0, Id::new(id))?;
+        let id = Id::read(id)?;
         self.enter_place(id)
     }
 
@@ -39,17 +39,17 @@ impl<'a> DayBook<'a> {
         ensures follows { Follows (register_generator id member place form.now) (held self.old) (held self.new) result }
         ensures law { Recorded (register_generator id member place form.now) (held self.old) (held self.new) result }
     {
-        let (id, member, place) = read_ids(id, member, place)?;
+        let ids = ResourceIds::read(id, member, place)?;
         let generator = behind(3, Generator::register(form))?;
-        self.enter_resource(id, member, place, Unit::Generator(generator))
+        self.enter_resource(ids, Unit::Generator(generator))
     }
 
     pub fn register_load(&mut self, id: i64, member: i64, place: i64) -> Result<(), Refusal>
         ensures follows { Follows (register_load id member place) (held self.old) (held self.new) result }
         ensures law { Recorded (register_load id member place) (held self.old) (held self.new) result }
     {
-        let (id, member, place) = read_ids(id, member, place)?;
-        self.enter_resource(id, member, place, Unit::Load)
+        let ids = ResourceIds::read(id, member, place)?;
+        self.enter_resource(ids, Unit::Load)
     }
 }
 
@@ -66,9 +66,9 @@ impl<'a> DayBook<'a> {
         ensures law { Recorded (post_price place hour day_ahead real_time) (held self.old) (held self.new) result }
         ensures again { (da rt : ℤ) → SecondCounts (post_price place hour da rt) (post_price place hour day_ahead real_time) (held self.old) (held self.new) result }
     {
-        let (place, hour) = read_slot(place, hour)?;
+        let slot = Slot::read(place, hour)?;
         let price = behind(2, Price::new(day_ahead, real_time))?;
-        self.enter_price(place, hour, price)
+        self.enter_price(slot, price)
     }
 
     pub fn post_generator_hour(
@@ -84,10 +84,10 @@ impl<'a> DayBook<'a> {
         ensures law { Recorded (post_generator_hour resource hour day_ahead meter self_schedule commit) (held self.old) (held self.new) result }
         ensures again { (da mw own on : ℤ) → SecondCounts (post_generator_hour resource hour da mw own on) (post_generator_hour resource hour day_ahead meter self_schedule commit) (held self.old) (held self.new) result }
     {
-        let (resource, hour) = read_slot(resource, hour)?;
+        let slot = Slot::read(resource, hour)?;
         let posted = HourRecord::of_generator(day_ahead, meter, self_schedule, commit);
         let record = behind(2, posted)?;
-        self.enter_generator_hour(resource, hour, record)
+        self.enter_hour(slot, record, |unit| unit.is_generator())
     }
 
     pub fn post_load_hour(
@@ -101,9 +101,9 @@ impl<'a> DayBook<'a> {
         ensures law { Recorded (post_load_hour resource hour day_ahead meter) (held self.old) (held self.new) result }
         ensures again { (da mw : ℤ) → SecondCounts (post_load_hour resource hour da mw) (post_load_hour resource hour day_ahead meter) (held self.old) (held self.new) result }
     {
-        let (resource, hour) = read_slot(resource, hour)?;
+        let slot = Slot::read(resource, hour)?;
         let record = behind(2, HourRecord::of_load(day_ahead, meter))?;
-        self.enter_load_hour(resource, hour, record)
+        self.enter_hour(slot, record, |unit| !unit.is_generator())
     }
 
     // The hour record goes, as if it had never been posted.
@@ -112,7 +112,7 @@ impl<'a> DayBook<'a> {
         ensures law { Recorded (to-strike resource hour) (held self.old) (held self.new) result }
         ensures never { AsIfNever resource hour (held self.old) (held self.new) result }
     {
-        let (resource, hour) = read_slot(resource, hour)?;
-        self.take_hour(resource, hour)
+        let slot = Slot::read(resource, hour)?;
+        self.take_hour(slot)
     }
 }

@@ -6,7 +6,7 @@ ghost use Rattle.daybook.specs.Numbers.{has_whole_prices, has_whole_hours};
 ghost use Rattle.daybook.specs.Held.{held, with_members, with_places, with_resources};
 
 use super::DayBook;
-use crate::id::Id;
+use crate::id::{Id, ResourceIds};
 use figures::{Member, Place, Resource, Unit};
 
 // The five changes of a table. Each keeps what the book's type says of it.
@@ -27,14 +27,19 @@ impl<'a> DayBook<'a> {
         let _ = self.places.insert(Place::new(id.number));
     }
 
-    pub(crate) fn add_resource(&mut self, id: Id, member: Id, place: Id, unit: Unit)
-        requires owned { is_some (lookup member_key member.number (held self.old).members) ≡ true }
-        requires placed { is_some (lookup place_key place.number (held self.old).places) ≡ true }
-        requires free { is_some (lookup resource_key id.number (held self.old).resources) ≡ false }
+    pub(crate) fn add_resource(&mut self, ids: ResourceIds, unit: Unit)
+        requires owned { is_some (lookup member_key ids.member.number (held self.old).members) ≡ true }
+        requires placed { is_some (lookup place_key ids.place.number (held self.old).places) ≡ true }
+        requires free { is_some (lookup resource_key ids.own.number (held self.old).resources) ≡ false }
         requires room { (length (held self.old).resources == (held self.old).resource_room) ≡ false }
-        ensures { held self.new ≡ with_resources (held self.old) (inserted resource_key (new_resource id.number member.number place.number unit) (held self.old).resources) }
+        ensures { held self.new ≡ with_resources (held self.old) (inserted resource_key (new_resource ids.own.number ids.member.number ids.place.number unit) (held self.old).resources) }
     {
-        let _ = self.resources.insert(Resource::new(id.number, member.number, place.number, unit));
+        let _ = self.resources.insert(Resource::new(
+            ids.own.number,
+            ids.member.number,
+            ids.place.number,
+            unit,
+        ));
     }
 
     pub(crate) fn keep_place(&mut self, place: Place)

@@ -10,7 +10,8 @@ ghost use Rattle.daybook.specs.Questions.{generator_asked, periods_asked, bid_co
 ghost use Rattle.daybook.specs.Periods.{listed_in};
 
 use super::DayBook;
-use crate::id::{Id, behind};
+use crate::book::finding::not_registered;
+use crate::id::Id;
 use commitment::Stretches;
 use figures::Resource;
 use refusal::{Kind, Refusal};
@@ -21,15 +22,13 @@ impl<'a> DayBook<'a> {
     fn asked_generator(&self, id: i64) -> Result<(Generator, Resource), Refusal>
         ensures { result ≡ generator_asked (held self.now) id }
     {
-        let id = behind(0, Id::new(id))?;
+        let id = Id::read(id)?;
         let resource = self.resource(id)?;
-        match resource.unit.generator() {
-            Some(generator) => Ok((generator, resource)),
-            None => Err(Refusal::NotRegistered {
-                id: id.number,
-                kind: Kind::Resource,
-            }),
-        }
+        let generator = resource
+            .unit
+            .generator()
+            .ok_or(not_registered(id, Kind::Resource))?;
+        Ok((generator, resource))
     }
 
     // Its self-commitment periods, in the order of the day.

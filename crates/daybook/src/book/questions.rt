@@ -5,7 +5,7 @@ ghost use Rattle.daybook.specs.Lending.{Lends, CallsRoll};
 ghost use Rattle.daybook.specs.Questions.{member_asked, row_asked, energy_asked, rows_of, pots_of, Pooled, Shareable};
 
 use super::DayBook;
-use crate::id::{Id, behind};
+use crate::id::Id;
 use figures::{Member, Roll, Rows, Standing};
 use refusal::Refusal;
 use sharing::MemberRow;
@@ -33,7 +33,7 @@ impl<'a> DayBook<'a> {
     fn asked_member(&self, id: i64) -> Result<Member, Refusal>
         ensures { result ≡ member_asked (held self.now) id }
     {
-        let id = behind(0, Id::new(id))?;
+        let id = Id::read(id)?;
         self.member(id)
     }
 

@@ -1,10 +1,21 @@
 ghost use Rattle.std.specs.Prelude.{◌≡◌, ◌+◌, ◌^◌, ◌<◌, IfErr};
-ghost use Rattle.daybook.specs.Readings.{id_of, read, behind};
+ghost use Rattle.daybook.specs.Readings.{id_of, id_from, read, behind};
 ghost use Rattle.daybook.specs.Calls.{ids_from, slot_from};
+ghost use Rattle.daybook.specs.Parts.{slot_parts, ids_parts};
 
-use super::Id;
+use super::{Id, ResourceIds, Slot};
 use hours::{Field, Hour, OutOfRange, check};
 use refusal::Refusal;
+
+// What some numbers were read as, or the refusal of one of them; `before` others were handed in first.
+pub(crate) fn behind<T>(before: usize, made: Result<T, OutOfRange>) -> Result<T, Refusal>
+    requires { IfErr made (λ e. before + e.field < 2 ^ 64) }
+    ensures { result ≡ behind before made }
+{
+    made.map_err(|e| Refusal::FieldOutOfRange {
+        field: before + e.field,
+    })
+}
 
 impl Id {
     pub fn new(number: i64) -> Result<Id, OutOfRange>
@@ -15,36 +26,32 @@ impl Id {
             number: number as u16,
         })
     }
-}
 
-// What some numbers were read as, or the refusal of one of them; `before` others were handed in first.
-pub(crate) fn behind<T>(before: usize, made: Result<T, OutOfRange>) -> Result<T, Refusal>
-    requires { IfErr made (λ e. before + e.field < 2 ^ 64) }
-    ensures { result ≡ behind before made }
-{
-    match made {
-        Ok(value) => Ok(value),
-        Err(e) => Err(Refusal::FieldOutOfRange {
-            field: before + e.field,
-        }),
+    // The first number of a call.
+    pub(crate) fn read(number: i64) -> Result<Id, Refusal>
+        ensures { result ≡ read (id_from number) }
+    {
+        behind(0, Id::new(number))
     }
 }
 
-// An id and an hour.
-pub(crate) fn read_slot(id: i64, hour: i64) -> Result<(Id, Hour), Refusal>
-    ensures { result ≡ read (slot_from id hour) }
-{
-    let id = behind(0, Id::new(id))?;
-    let hour = behind(1, Hour::new(hour))?;
-    Ok((id, hour))
+impl Slot {
+    pub(crate) fn read(id: i64, hour: i64) -> Result<Slot, Refusal>
+        ensures { slot_parts result ≡ read (slot_from id hour) }
+    {
+        let id = Id::read(id)?;
+        let hour = behind(1, Hour::new(hour))?;
+        Ok(Slot { id, hour })
+    }
 }
 
-// A resource's own id, its member and its place.
-pub(crate) fn read_ids(id: i64, member: i64, place: i64) -> Result<(Id, Id, Id), Refusal>
-    ensures { result ≡ read (ids_from id member place) }
-{
-    let id = behind(0, Id::new(id))?;
-    let member = behind(1, Id::new(member))?;
-    let place = behind(2, Id::new(place))?;
-    Ok((id, member, place))
+impl ResourceIds {
+    pub(crate) fn read(own: i64, member: i64, place: i64) -> Result<ResourceIds, Refusal>
+        ensures { ids_parts result ≡ read (ids_from own member place) }
+    {
+        let own = Id::read(own)?;
+        let member = behind(1, Id::new(member))?;
+        let place = behind(2, Id::new(place))?;
+        Ok(ResourceIds { own, member, place })
+    }
 }

@@ -16,19 +16,19 @@ use Rattle.daybook.proofs.book.DayBook.enter_price.Goals as goal
 pub keep_place-requires : goal.keep_place-requires
 keep_place-requires c =
     let ps = entries c.args.self.now.places in
-    let p = c.args.place.number in
+    let p = c.args.slot.id.number in
     let x = c.in_ok-found.found in
     let there = found-is (lookup place_key p ps) x _ c.in_ok-found.ensures in
     ap (λ d. has_whole_prices (record { id = x.id; prices = d })) c.set.ensures
-    ∙ still_whole x.prices.slots c.args.hour.number (Some c.args.price) (found_passes place_key has_whole_prices p ps x there c.args.self.now.prices_whole)
+    ∙ still_whole x.prices.slots c.args.slot.hour.number (Some c.args.price) (found_passes place_key has_whole_prices p ps x there c.args.self.now.prices_whole)
 
 pub returns : goal.returns
 returns c =
     let b = c.args.self.now in
-    let p = c.args.place.number in
+    let p = c.args.slot.id.number in
     let there = found-is (lookup place_key p (entries b.places)) c.in_ok-found.found _ c.in_ok-found.ensures in
     let free = post_free _ (option_map DraftOut b.out) (NotRegistered p Place) (ap is_some there) c.in_ok-no_draft_out.ensures in
     accepted _ _ _ free
     (c.keep_place.ensures
     ∙ ap (λ e. with_places (held b) (replaced place_key e (entries b.places))) (ap (λ d. record { id = c.in_ok-found.found.id; prices = d }) c.set.ensures)
-    ∙ ap (with_places (held b)) (put_back place_key p (with_price c.args.hour.number c.args.price) c.in_ok-found.found (entries b.places) there refl))
+    ∙ ap (with_places (held b)) (put_back place_key p (with_price c.args.slot.hour.number c.args.price) c.in_ok-found.found (entries b.places) there refl))

@@ -1,32 +1,27 @@
 use Rattle.std.proofs.Common.{◌≡◌, Ok, refl, ap, ◌∙◌, lit<}
-use Rattle.std.proofs.lemmas.Result.{err_from_is_err_and}
 use Rattle.tariff.specs.declared.generator.Generator.{Generator as Machine}
 use Rattle.tariff.specs.Generators.{generator_fields, generator_made}
 use Rattle.figures.specs.declared.standing.Unit.TheVariants.{Generator}
 use Rattle.daybook.specs.declared.id.Id.{Id}
-use Rattle.daybook.specs.Calls.{Act, register_generator, ids_from, generator_from, brings_resource}
+use Rattle.daybook.specs.Calls.{register_generator, Act, ids_from, generator_from, brings_resource}
 use Rattle.daybook.specs.Readings.{read, behind}
-use Rattle.daybook.specs.Held.{held}
-use Rattle.daybook.proofs.Followed.{out_of_range_lem, follows_act}
-use Rattle.daybook.proofs.Lawful.{recorded}
-use Rattle.daybook.proofs.Taking.{small, first_out_lem, second_out, both_read, ids_handed}
+use Rattle.daybook.proofs.Followed.{out_of_range, carried_out}
+use Rattle.daybook.proofs.Taking.{small, first_out_lem, second_out, both_read, handed_three}
 use Rattle.daybook.proofs.book.DayBook.register_generator.Goals as goal
-use Rattle.daybook.proofs.book.DayBook.register_generator.Goals.{In_ok-id}
+use Rattle.daybook.proofs.book.DayBook.register_generator.Goals.{In_ok-ids}
 
 abbrev act : (Id × Id × Id) × Machine → Act
 act x = brings_resource x.0 (Generator x.1)
 
-the-ids : (c : In_ok-id) → Ok (c.in_ok-id.id, c.in_ok-id.member, c.in_ok-id.place) ≡ read (ids_from c.args.id c.args.member c.args.place)
-the-ids c = ids_handed c.args.id c.args.member c.args.place c.ranges.id c.ranges.member c.ranges.place _ c.in_ok-id.ensures
+the-ids : (c : In_ok-ids) → Ok (c.in_ok-ids.ids.own, c.in_ok-ids.ids.member, c.in_ok-ids.ids.place) ≡ read (ids_from c.args.id c.args.member c.args.place)
+the-ids c = c.in_ok-ids.ensures ∙ handed_three (λ i j k. read (ids_from i j k)) c.args.id c.args.member c.args.place c.ranges.id c.ranges.member c.ranges.place
 
-pub returns-in_err-id : goal.returns-in_err-id
-returns-in_err-id c =
+pub returns-in_err-ids : goal.returns-in_err-ids
+returns-in_err-ids c =
     let id = c.args.id in let m = c.args.member in let p = c.args.place in let form = c.args.form.now in
-    let y = err_from_is_err_and c.from_residual.result c.from_residual.ensures.1 in
-    let ids = ids_handed id m p c.ranges.id c.ranges.member c.ranges.place _ c.in_err-id.ensures in
-    let b = c.args.self.now in
-    let f = out_of_range_lem (register_generator id m p form) (held b) _ _ _ y.1 y.2 (first_out_lem act (ids_from id m p) (generator_from form) _ ids) in
-    record { follows = f; law = recorded (register_generator id m p form) _ _ _ f b.prices_whole b.hours_whole }
+    let out = first_out_lem act (ids_from id m p) (generator_from form) _ (c.in_err-ids.ensures ∙ handed_three (λ i j k. read (ids_from i j k)) id m p c.ranges.id c.ranges.member c.ranges.place) in
+    let f = out_of_range (register_generator id m p form) c.args.self.now _ c.from_residual.ensures.1 out in
+    record { follows = f.0; law = f.1 }
 
 pub behind-requires : goal.behind-requires
 behind-requires c = let form = c.args.form.now in small 3 (generator_fields form) (generator_made form) _ c.register.ensures (lit< tt)
@@ -34,16 +29,13 @@ behind-requires c = let form = c.args.form.now in small 3 (generator_fields form
 pub returns-in_err-generator : goal.returns-in_err-generator
 returns-in_err-generator c =
     let id = c.args.id in let m = c.args.member in let p = c.args.place in let form = c.args.form.now in
-    let y = err_from_is_err_and c.from_residual-in_err-generator.result c.from_residual-in_err-generator.ensures.1 in
-    let out = c.in_err-generator.ensures ∙ ap (behind 3) c.register.ensures in
-    let b = c.args.self.now in
-    let f = out_of_range_lem (register_generator id m p form) (held b) _ _ _ y.1 y.2 (second_out act (ids_from id m p) (generator_from form) 3 refl _ (the-ids (goal.at.returns-in_err-generator c).In_ok-id) _ out) in
-    record { follows = f; law = recorded (register_generator id m p form) _ _ _ f b.prices_whole b.hours_whole }
+    let out = second_out act (ids_from id m p) (generator_from form) 3 refl _ (the-ids (goal.at.returns-in_err-generator c).In_ok-ids) _ (c.in_err-generator.ensures ∙ ap (behind 3) c.register.ensures) in
+    let f = out_of_range (register_generator id m p form) c.args.self.now _ c.from_residual-in_err-generator.ensures.1 out in
+    record { follows = f.0; law = f.1 }
 
 pub returns : goal.returns
 returns c =
     let id = c.args.id in let m = c.args.member in let p = c.args.place in let form = c.args.form.now in
-    let was = c.in_ok-generator.ensures ∙ ap (behind 3) c.register.ensures in
-    let b = c.args.self.now in
-    let f = follows_act (register_generator id m p form) _ _ _ _ (both_read act (ids_from id m p) (generator_from form) 3 refl _ (the-ids (goal.at.returns c).In_ok-id) _ was) c.enter_resource.ensures in
-    record { follows = f; law = recorded (register_generator id m p form) _ _ _ f b.prices_whole b.hours_whole }
+    let is = both_read act (ids_from id m p) (generator_from form) 3 refl _ (the-ids (goal.at.returns c).In_ok-ids) _ (c.in_ok-generator.ensures ∙ ap (behind 3) c.register.ensures) in
+    let f = carried_out (register_generator id m p form) c.args.self.now _ _ _ is c.enter_resource.ensures in
+    record { follows = f.0; law = f.1 }

@@ -15,11 +15,11 @@ keep_resource-requires c =
     let b = c.args.self.now in
     let x = c.args.found in
     record {
-      owned = found_passes resource_key (λ r. among (ids_of_members (entries b.members)) r.member) x.id (entries b.resources) x c.requires b.owned;
-      placed = found_passes resource_key (λ r. among (ids_of_places (entries b.places)) r.place) x.id (entries b.resources) x c.requires b.placed;
+      owned = found_passes resource_key (λ r. among (ids_of_members (entries b.members)) r.member) c.args.slot.id.number (entries b.resources) x c.requires b.owned;
+      placed = found_passes resource_key (λ r. among (ids_of_places (entries b.places)) r.place) c.args.slot.id.number (entries b.resources) x c.requires b.placed;
       whole =
           ap (λ d. has_whole_hours (with_hours x d)) c.set.ensures
-          ∙ still_whole x.hours.slots c.args.hour.number (Some c.args.record) (found_passes resource_key has_whole_hours x.id (entries b.resources) x c.requires b.hours_whole);
+          ∙ still_whole x.hours.slots c.args.slot.hour.number (Some c.args.record) (found_passes resource_key has_whole_hours c.args.slot.id.number (entries b.resources) x c.requires b.hours_whole);
     }
 
 pub returns : goal.returns
@@ -28,4 +28,4 @@ returns c =
     let x = c.args.found in
     c.keep_resource.ensures
     ∙ ap (λ d. with_resources (held b) (replaced resource_key (with_hours x d) (entries b.resources))) c.set.ensures
-    ∙ ap (with_resources (held b)) (put_back resource_key x.id (with_hour c.args.hour.number (Some c.args.record)) x (entries b.resources) c.requires refl)
+    ∙ ap (with_resources (held b)) (put_back resource_key c.args.slot.id.number (with_hour c.args.slot.hour.number (Some c.args.record)) x (entries b.resources) c.requires refl)

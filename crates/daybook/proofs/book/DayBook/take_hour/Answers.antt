@@ -9,7 +9,7 @@ use Rattle.figures.specs.Owners.{among}
 use Rattle.daybook.specs.Changes.{with_hour}
 use Rattle.daybook.specs.Held.{held, with_resources}
 use Rattle.daybook.specs.Numbers.{has_whole_hours}
-use Rattle.daybook.proofs.Acts.{accepted, found-is, nothing-due}
+use Rattle.daybook.proofs.Acts.{accepted, found_ok, found-is, nothing-due}
 use Rattle.daybook.proofs.Keeping.{found_passes, still_whole}
 use Rattle.daybook.proofs.Slots.{hour_stands}
 use Rattle.daybook.proofs.Updates.{put_back, with_hours}
@@ -18,7 +18,7 @@ use Rattle.daybook.proofs.book.DayBook.take_hour.Goals as goal
 pub keep_resource-requires : goal.keep_resource-requires
 keep_resource-requires c =
     let b = c.args.self.now in
-    let k = c.args.resource.number in
+    let k = c.args.slot.id.number in
     let rs = entries b.resources in
     let x = c.in_ok-found.found in
     let there = found-is (lookup resource_key k rs) x _ c.in_ok-found.ensures in
@@ -27,18 +27,18 @@ keep_resource-requires c =
       placed = found_passes resource_key (λ r. among (ids_of_places (entries b.places)) r.place) k rs x there b.placed;
       whole =
           ap (λ d. has_whole_hours (with_hours x d)) c.strike.ensures.after
-          ∙ still_whole x.hours.slots c.args.hour.number None (found_passes resource_key has_whole_hours k rs x there b.hours_whole);
+          ∙ still_whole x.hours.slots c.args.slot.hour.number None (found_passes resource_key has_whole_hours k rs x there b.hours_whole);
     }
 
 pub returns : goal.returns
 returns c =
     let b = c.args.self.now in
     let rs = entries b.resources in
-    let k = c.args.resource.number in
-    let h = c.args.hour.number in
+    let k = c.args.slot.id.number in
+    let h = c.args.slot.hour.number in
     let x = c.in_ok-found.found in
     let there = found-is (lookup resource_key k rs) x _ c.in_ok-found.ensures in
-    let stood = hour_stands (held b) k c.args.hour x there ∙ ap is_some (sym c.strike.ensures.reply) ∙ c.if-is_none.ensures in
+    let stood = hour_stands (held b) k c.args.slot.hour x there ∙ ap is_some (sym c.strike.ensures.reply) ∙ found_ok _ _ _ c.in_ok-ok_or.ensures.value in
     let free = nothing-due _ _ (option_map DraftOut b.out) (NotRegistered k Resource) (NothingToStrike k h) (ap is_some there) c.in_ok-no_draft_out.ensures stood in
     accepted _ _ _ free
     (c.keep_resource.ensures
