@@ -11,14 +11,13 @@ use Rattle.daybook.specs.Laws.{Recorded}
 use Rattle.daybook.proofs.Lawful.{recorded}
 
 module _ (c : Call) (b : DayBook) where
-  both_clauses : (w : Held) (r : Result (Unit {0}) Refusal) → Follows c (held b) w r → Follows c (held b) w r × Recorded c (held b) w r
-  both_clauses w r f = (f, recorded c (held b) w r f b.prices_whole b.hours_whole)
-
   -- a `?` that hands on the refusal of a number
-  pub out_of_range : {e : Refusal} (r : Result (Unit {0}) Refusal) → IsErrAnd r (λ y. y ≡ e) → Err e ≡ asked c → Follows c (held b) (held b) r × Recorded c (held b) (held b) r
+  pub out_of_range : {e : Refusal} (r : Result (Unit {0}) Refusal) → IsErrAnd r (λ y. y ≡ e) → Err e ≡ asked c → Follows c (held b) (held b) r
   out_of_range r told out =
       let y = err_from_is_err_and r told in
-      both_clauses (held b) r (record { reply = y.1 ∙ ap Err y.2 ∙ ap (λ x. replied (due_if (held b) x)) out; holds = ap (after_if (held b)) out })
+      record { reply = y.1 ∙ ap Err y.2 ∙ ap (λ x. replied (due_if (held b) x)) out; holds = ap (after_if (held b)) out }
 
   pub carried_out : (a : Act) (w : Held) (r : Result (Unit {0}) Refusal) → Ok a ≡ asked c → Answers a (held b) w r → Follows c (held b) w r × Recorded c (held b) w r
-  carried_out a w r is told = both_clauses w r (record { reply = told.reply ∙ ap (λ x. replied (due_if (held b) x)) is; holds = told.holds ∙ ap (after_if (held b)) is })
+  carried_out a w r is told =
+      let f : Follows c (held b) w r = record { reply = told.reply ∙ ap (λ x. replied (due_if (held b) x)) is; holds = told.holds ∙ ap (after_if (held b)) is } in
+      (f, recorded c (held b) w r f b.prices_whole b.hours_whole)

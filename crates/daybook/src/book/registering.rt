@@ -11,7 +11,7 @@ ghost use Rattle.daybook.specs.Records.{member as the_member, place as the-place
 
 use super::DayBook;
 use crate::id::{Id, ResourceIds};
-use figures::Unit;
+use figures::{Member, Place, Unit};
 use refusal::{Kind, Refusal, Store};
 use table::{Keyed, Table};
 
@@ -43,7 +43,7 @@ impl<'a> DayBook<'a> {
         ensures { Answers (brings (the_member id.number)) (held self.old) (held self.new) result }
     {
         self.may_add(&self.members, id, Kind::Member)?;
-        self.add_member(id);
+        let _ = self.members.insert(Member::new(id.number));
         Ok(())
     }
 
@@ -51,7 +51,7 @@ impl<'a> DayBook<'a> {
         ensures { Answers (brings (the-place id.number)) (held self.old) (held self.new) result }
     {
         self.may_add(&self.places, id, Kind::Place)?;
-        self.add_place(id);
+        let _ = self.places.insert(Place::new(id.number));
         Ok(())
     }
 

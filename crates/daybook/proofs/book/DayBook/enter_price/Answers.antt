@@ -13,14 +13,6 @@ use Rattle.daybook.proofs.Keeping.{found_passes, still_whole}
 use Rattle.daybook.proofs.Updates.{put_back}
 use Rattle.daybook.proofs.book.DayBook.enter_price.Goals as goal
 
-pub keep_place-requires : goal.keep_place-requires
-keep_place-requires c =
-    let ps = entries c.args.self.now.places in
-    let p = c.args.slot.id.number in
-    let x = c.in_ok-found.found in
-    let there = found-is (lookup place_key p ps) x _ c.in_ok-found.ensures in
-    ap (λ d. has_whole_prices (record { id = x.id; prices = d })) c.set.ensures
-    ∙ still_whole x.prices.slots c.args.slot.hour.number (Some c.args.price) (found_passes place_key has_whole_prices p ps x there c.args.self.now.prices_whole)
 
 pub returns : goal.returns
 returns c =

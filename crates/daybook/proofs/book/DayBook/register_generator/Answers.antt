@@ -16,22 +16,20 @@ act x = brings_resource x.0 (Generator x.1)
 the-ids : (c : In_ok-ids) → Ok (c.in_ok-ids.ids.own, c.in_ok-ids.ids.member, c.in_ok-ids.ids.place) ≡ read (ids_from c.args.id c.args.member c.args.place)
 the-ids c = c.in_ok-ids.ensures ∙ handed_three (λ i j k. read (ids_from i j k)) c.args.id c.args.member c.args.place c.ranges.id c.ranges.member c.ranges.place
 
-pub returns-in_err-ids : goal.returns-in_err-ids
-returns-in_err-ids c =
+pub returns-in_err-ids-clause-follows : goal.returns-in_err-ids-clause-follows
+returns-in_err-ids-clause-follows c =
     let id = c.args.id in let m = c.args.member in let p = c.args.place in let form = c.args.form.now in
     let out = first_out_lem act (ids_from id m p) (generator_from form) _ (c.in_err-ids.ensures ∙ handed_three (λ i j k. read (ids_from i j k)) id m p c.ranges.id c.ranges.member c.ranges.place) in
-    let f = out_of_range (register_generator id m p form) c.args.self.now _ c.from_residual.ensures.1 out in
-    record { follows = f.0; law = f.1 }
+    out_of_range (register_generator id m p form) c.args.self.now _ c.from_residual.ensures.1 out
 
 pub behind-requires : goal.behind-requires
 behind-requires c = let form = c.args.form.now in small 3 (generator_fields form) (generator_made form) _ c.register.ensures (lit< tt)
 
-pub returns-in_err-generator : goal.returns-in_err-generator
-returns-in_err-generator c =
+pub returns-in_err-generator-clause-follows : goal.returns-in_err-generator-clause-follows
+returns-in_err-generator-clause-follows c =
     let id = c.args.id in let m = c.args.member in let p = c.args.place in let form = c.args.form.now in
-    let out = second_out act (ids_from id m p) (generator_from form) 3 refl _ (the-ids (goal.at.returns-in_err-generator c).In_ok-ids) _ (c.in_err-generator.ensures ∙ ap (behind 3) c.register.ensures) in
-    let f = out_of_range (register_generator id m p form) c.args.self.now _ c.from_residual-in_err-generator.ensures.1 out in
-    record { follows = f.0; law = f.1 }
+    let out = second_out act (ids_from id m p) (generator_from form) 3 refl _ (the-ids (goal.at.returns-in_err-generator-clause-follows c).In_ok-ids) _ (c.in_err-generator.ensures ∙ ap (behind 3) c.register.ensures) in
+    out_of_range (register_generator id m p form) c.args.self.now _ c.from_residual-in_err-generator.ensures.1 out
 
 pub returns : goal.returns
 returns c =

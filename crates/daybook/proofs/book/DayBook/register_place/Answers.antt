@@ -6,11 +6,10 @@ use Rattle.daybook.proofs.Followed.{out_of_range, carried_out}
 use Rattle.daybook.proofs.Taking.{into-out, read-into, handed}
 use Rattle.daybook.proofs.book.DayBook.register_place.Goals as goal
 
-pub returns-in_err-id : goal.returns-in_err-id
-returns-in_err-id c =
+pub returns-in_err-id-clause-follows : goal.returns-in_err-id-clause-follows
+returns-in_err-id-clause-follows c =
     let out = into-out (λ x. brings (place x.number)) (id_from c.args.id) _ (c.in_err-id.ensures ∙ handed (λ n. read (id_from n)) c.args.id c.ranges.id) in
-    let f = out_of_range (register_place c.args.id) c.args.self.now _ c.from_residual.ensures.1 out in
-    record { follows = f.0; law = f.1 }
+    out_of_range (register_place c.args.id) c.args.self.now _ c.from_residual.ensures.1 out
 
 pub returns : goal.returns
 returns c =

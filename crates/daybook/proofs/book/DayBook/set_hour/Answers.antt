@@ -10,17 +10,15 @@ use Rattle.daybook.proofs.Keeping.{found_passes, still_whole}
 use Rattle.daybook.proofs.Updates.{put_back, with_hours}
 use Rattle.daybook.proofs.book.DayBook.set_hour.Goals as goal
 
-pub keep_resource-requires : goal.keep_resource-requires
-keep_resource-requires c =
+pub keep_resource-requires-clause-owned : goal.keep_resource-requires-clause-owned
+keep_resource-requires-clause-owned c =
     let b = c.args.self.now in
-    let x = c.args.found in
-    record {
-      owned = found_passes resource_key (λ r. among (ids_of_members (entries b.members)) r.member) c.args.slot.id.number (entries b.resources) x c.requires b.owned;
-      placed = found_passes resource_key (λ r. among (ids_of_places (entries b.places)) r.place) c.args.slot.id.number (entries b.resources) x c.requires b.placed;
-      whole =
-          ap (λ d. has_whole_hours (with_hours x d)) c.set.ensures
-          ∙ still_whole x.hours.slots c.args.slot.hour.number (Some c.args.record) (found_passes resource_key has_whole_hours c.args.slot.id.number (entries b.resources) x c.requires b.hours_whole);
-    }
+    found_passes resource_key (λ r. among (ids_of_members (entries b.members)) r.member) c.args.slot.id.number (entries b.resources) c.args.found c.requires b.owned
+
+pub keep_resource-requires-clause-placed : goal.keep_resource-requires-clause-placed
+keep_resource-requires-clause-placed c =
+    let b = c.args.self.now in
+    found_passes resource_key (λ r. among (ids_of_places (entries b.places)) r.place) c.args.slot.id.number (entries b.resources) c.args.found c.requires b.placed
 
 pub returns : goal.returns
 returns c =

@@ -17,12 +17,11 @@ struck-again r h before next reply f = record {
   loads_hour = λ da meter. unposted load_hour (post_load_hour r h da meter) r h (load_hour_from da meter) refl (λ _ _ _ _. refl) before next reply f;
 }
 
-pub returns-in_err-slot : goal.returns-in_err-slot
-returns-in_err-slot c =
+pub returns-in_err-slot-clause-follows : goal.returns-in_err-slot-clause-follows
+returns-in_err-slot-clause-follows c =
     let r = c.args.resource in let h = c.args.hour in
     let out = into-out (λ x. takes x.0.number x.1) (slot_from r h) _ (c.in_err-slot.ensures ∙ handed_two (λ y z. read (slot_from y z)) r h c.ranges.resource c.ranges.hour) in
-    let f = out_of_range (strike r h) c.args.self.now _ c.from_residual.ensures.1 out in
-    record { follows = f.0; law = f.1; never = struck-again r h _ _ _ f.0 }
+    out_of_range (strike r h) c.args.self.now _ c.from_residual.ensures.1 out
 
 pub returns : goal.returns
 returns c =

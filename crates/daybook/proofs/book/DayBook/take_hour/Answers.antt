@@ -15,20 +15,17 @@ use Rattle.daybook.proofs.Slots.{hour_stands}
 use Rattle.daybook.proofs.Updates.{put_back, with_hours}
 use Rattle.daybook.proofs.book.DayBook.take_hour.Goals as goal
 
-pub keep_resource-requires : goal.keep_resource-requires
-keep_resource-requires c =
+pub keep_resource-requires-clause-owned : goal.keep_resource-requires-clause-owned
+keep_resource-requires-clause-owned c =
     let b = c.args.self.now in
-    let k = c.args.slot.id.number in
-    let rs = entries b.resources in
-    let x = c.in_ok-found.found in
-    let there = found-is (lookup resource_key k rs) x _ c.in_ok-found.ensures in
-    record {
-      owned = found_passes resource_key (λ r. among (ids_of_members (entries b.members)) r.member) k rs x there b.owned;
-      placed = found_passes resource_key (λ r. among (ids_of_places (entries b.places)) r.place) k rs x there b.placed;
-      whole =
-          ap (λ d. has_whole_hours (with_hours x d)) c.strike.ensures.after
-          ∙ still_whole x.hours.slots c.args.slot.hour.number None (found_passes resource_key has_whole_hours k rs x there b.hours_whole);
-    }
+    let there = found-is _ _ _ c.in_ok-found.ensures in
+    found_passes resource_key (λ r. among (ids_of_members (entries b.members)) r.member) c.args.slot.id.number (entries b.resources) c.in_ok-found.found there b.owned
+
+pub keep_resource-requires-clause-placed : goal.keep_resource-requires-clause-placed
+keep_resource-requires-clause-placed c =
+    let b = c.args.self.now in
+    let there = found-is _ _ _ c.in_ok-found.ensures in
+    found_passes resource_key (λ r. among (ids_of_places (entries b.places)) r.place) c.args.slot.id.number (entries b.resources) c.in_ok-found.found there b.placed
 
 pub returns : goal.returns
 returns c =

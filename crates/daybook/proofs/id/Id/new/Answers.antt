@@ -6,12 +6,6 @@ use Rattle.daybook.specs.Readings.{id_fields, id_made, id_bounds}
 use Rattle.daybook.proofs.Made.{same_id}
 use Rattle.daybook.proofs.id.Id.new.Goals as goal
 
-pub returns-in_err-check : goal.returns-in_err-check
-returns-in_err-check c =
-    let n = c.args.number in let f = c.ranges.number in
-    let p = err_from_is_err_and c.from_residual.result c.from_residual.ensures.1 in
-    refused-is _ (id_fields n) (simp to_z-of_z) (id_made n) _ _ _ p.1 p.2 c.in_err-check.ensures.cases
-
 pub returns : goal.returns
 returns c =
     let n = c.args.number in let f = c.ranges.number in
