@@ -9,7 +9,6 @@ use figures::{Member, Place, Resource};
 use table::Table;
 
 mod calls;
-mod changing;
 mod finding;
 mod generators;
 mod opening;

@@ -1,16 +1,18 @@
-ghost use Rattle.std.specs.Prelude.{◌≡◌, Some, None};
-ghost use Rattle.table.specs.Entries.{lookup};
-ghost use Rattle.figures.specs.Entries.{resource_key, is_generator};
+ghost use Rattle.std.specs.Prelude.{◌≡◌, true};
+ghost use Rattle.table.specs.Entries.{replaced};
+ghost use Rattle.figures.specs.Entries.{place_key, resource_key, ids_of_members, ids_of_places, is_generator};
+ghost use Rattle.figures.specs.Owners.{among};
 ghost use Rattle.daybook.specs.Calls.{brings, takes};
-ghost use Rattle.daybook.specs.Changes.{Answers, hour_changed};
+ghost use Rattle.daybook.specs.Changes.{Answers};
 ghost use Rattle.daybook.specs.Due.{is_load};
 ghost use Rattle.daybook.specs.Finding.{Tells};
-ghost use Rattle.daybook.specs.Held.{held};
+ghost use Rattle.daybook.specs.Held.{held, with_places, with_resources};
+ghost use Rattle.daybook.specs.Numbers.{has_whole_prices, has_whole_hours};
 ghost use Rattle.daybook.specs.Records.{price as the-price, generator_hour as generators_hour, load_hour as loads_hour};
 
 use super::DayBook;
 use crate::id::Slot;
-use figures::{Resource, Unit};
+use figures::{Place, Resource, Unit};
 use hours::{HourRecord, Price};
 use refusal::Refusal;
 
@@ -25,15 +27,6 @@ impl<'a> DayBook<'a> {
         Ok(())
     }
 
-    // One hour of a resource that was found in the book.
-    fn set_hour(&mut self, slot: Slot, mut found: Resource, record: HourRecord)
-        requires { lookup resource_key slot.id.number (held self.old).resources ≡ Some found }
-        ensures { held self.new ≡ hour_changed slot.id.number slot.hour.number (Some «record») (held self.old) }
-    {
-        found.hours.set(slot.hour, record);
-        self.keep_resource(found);
-    }
-
     // An hour record for a resource of the kind that is meant.
     pub(crate) fn enter_hour<F: FnOnce(Unit) -> bool>(
         &mut self,
@@ -45,9 +38,10 @@ impl<'a> DayBook<'a> {
         ensures generators { Tells (F.post meant) is_generator → Answers (brings (generators_hour slot.id.number slot.hour «record»)) (held self.old) (held self.new) result }
         ensures loads { Tells (F.post meant) is_load → Answers (brings (loads_hour slot.id.number slot.hour «record»)) (held self.old) (held self.new) result }
     {
-        let found = self.resource_as(slot.id, meant)?;
+        let mut found = self.resource_as(slot.id, meant)?;
         self.no_draft_out()?;
-        self.set_hour(slot, found, record);
+        found.hours.set(slot.hour, record);
+        self.keep_resource(found);
         Ok(())
     }
 
@@ -65,5 +59,23 @@ impl<'a> DayBook<'a> {
             })?;
         self.keep_resource(left);
         Ok(())
+    }
+
+    // A place of the book with other prices.
+    fn keep_place(&mut self, place: Place)
+        requires { has_whole_prices place ≡ true }
+        ensures { held self.new ≡ with_places (held self.old) (replaced place_key place (held self.old).places) }
+    {
+        self.places.replace(place);
+    }
+
+    // A resource of the book with other hour records.
+    fn keep_resource(&mut self, resource: Resource)
+        requires owned { among (ids_of_members (held self.old).members) resource.member ≡ true }
+        requires placed { among (ids_of_places (held self.old).places) resource.place ≡ true }
+        requires whole { has_whole_hours resource ≡ true }
+        ensures { held self.new ≡ with_resources (held self.old) (replaced resource_key resource (held self.old).resources) }
+    {
+        self.resources.replace(resource);
     }
 }

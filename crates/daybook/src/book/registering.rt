@@ -11,7 +11,7 @@ ghost use Rattle.daybook.specs.Records.{member as the_member, place as the-place
 
 use super::DayBook;
 use crate::id::{Id, ResourceIds};
-use figures::{Member, Place, Unit};
+use figures::{Member, Place, Resource, Unit};
 use refusal::{Kind, Refusal, Store};
 use table::{Keyed, Table};
 
@@ -61,7 +61,12 @@ impl<'a> DayBook<'a> {
         self.member(ids.member)?;
         self.place(ids.place)?;
         self.may_add(&self.resources, ids.own, Kind::Resource)?;
-        self.add_resource(ids, unit);
+        let _ = self.resources.insert(Resource::new(
+            ids.own.number,
+            ids.member.number,
+            ids.place.number,
+            unit,
+        ));
         Ok(())
     }
 }
