@@ -17,30 +17,16 @@ use Rattle.daybook.specs.Held.{Held}
 use Rattle.daybook.specs.Records.{resource}
 
 pub due-from : (o : Option Refusal) (e : Refusal) → Err e ≡ replied o → o ≡ Some e
-due-from None e h = let z : ◌≡◌ {A = ℕ} 0 1 = cc in absurd (omega arith)
+due-from None e h = cc
 due-from (Some d) e h = cc
 
 pub free-from : (o : Option Refusal) → Ok tt ≡ replied o → o ≡ None
 free-from None h = refl
-free-from (Some d) h = let z : ◌≡◌ {A = ℕ} 0 1 = cc in absurd (omega arith)
-
--- a `?` that hands on the refusal
-pub refused : (a : Act) (v : Held) (r : Result (Unit {0}) Refusal) (y e : Refusal) → r ≡ Err y → y ≡ e → Err e ≡ replied (due_to v a) → Answers a v v r
-refused a v r y e was is h = record {
-  reply = was ∙ ap Err is ∙ h;
-  holds = ap (λ o. unless o (done a v) v) (sym (due-from (due_to v a) e h));
-}
+free-from (Some d) h = cc
 
 pub found_ok : {X : Type 0} (o : Option X) (x : X) (e : Refusal) → Ok x ≡ ok_or o e → is_some o ≡ true
-found_ok None x e h = let z : ◌≡◌ {A = ℕ} 0 1 = cc in absurd (omega arith)
+found_ok None x e h = cc
 found_ok (Some y) x e h = refl
-
--- what is left to be asked once a resource's member and place are there
-pub resource-due : (v : Held) (id m p : ℕ) (unit : Sort) (used full : Bool) → registered v (a_member m) ≡ true → registered v (a_place p) ≡ true → used ≡ registered v (a_resource id) → full ≡ is_full v Resource
-    → first (λ o. o) (cond used (Some (InUse id Resource)) None ∷ cond full (Some (Full (Table Resource))) None ∷ option_map DraftOut v.out ∷ []) ≡ due_to v (brings (resource id m p unit))
-resource-due v id m p unit used full owned placed u f i =
-    option_or (option_or (cond (sym owned i) None (Some (NotRegistered m Member))) (option_or (cond (sym placed i) None (Some (NotRegistered p Place))) None))
-    (option_or (cond (u i) (Some (InUse id Resource)) None) (option_or (cond (f i) (Some (Full (Table Resource))) None) (option_or (option_map DraftOut v.out) None)))
 
 pub accepted : (a : Act) (v w : Held) → due_to v a ≡ None → w ≡ done a v → Answers a v w (Ok tt)
 accepted a v w free is = record {
@@ -49,11 +35,11 @@ accepted a v w free is = record {
 }
 
 pub found_is_a : (kind : Sort → Bool) (id : ℕ) (o : Option Entry) (r : Entry) → Ok r ≡ found_as kind id o → is_a kind o ≡ true
-found_is_a kind id None r h = let z : ◌≡◌ {A = ℕ} 0 1 = cc in absurd (omega arith)
+found_is_a kind id None r h = cc
 found_is_a kind id (Some x) r h = grind (arith, common_steps)
 
 pub found-is : {X : Type 0} (o : Option X) (x : X) (e : Refusal) → Ok x ≡ ok_or o e → o ≡ Some x
-found-is None x e h = let z : ◌≡◌ {A = ℕ} 0 1 = cc in absurd (omega arith)
+found-is None x e h = cc
 found-is (Some y) x e h = cc
 
 -- nothing is due once what is named is there, no draft is out, and there is something to strike

@@ -1,7 +1,8 @@
 -- An hour that is posted twice, and one that is posted and struck.
-use Rattle.std.proofs.Common.{◌≡◌, ℕ, ◌-◌, Bool, cond, eqb, List, [], ◌∷◌, ℤ, is_some, Some, None, Ok, Err, Option, Result, sym, refl, ap, ◌∙◌, ⊎_elim}
+use Rattle.std.proofs.Common.{◌≡◌, ℕ, ◌-◌, Bool, cond, eqb, List, [], ◌∷◌, ℤ, is_some, Some, None, Ok, Err, Option, Result, sym, refl, ap, ◌∙◌, ⊎_elim, arith}
 use Rattle.std.specs.Option.{option_map, option_or}
 use Rattle.std.proofs.lemmas.List.{set-set, set-get_or}
+use Rattle.std.proofs.lemmas.Bool.Decides.{nat_tests}
 use Rattle.std.proofs.lemmas.Bool.{cond-true, cond-false, eq-eqb, eqb-true, cases_Bool, both_ways}
 use Rattle.refusal.specs.declared.cause.Refusal.{Refusal}
 use Rattle.refusal.specs.declared.cause.Refusal.TheVariants.{NotRegistered, DraftOut}
@@ -23,6 +24,7 @@ use Rattle.daybook.specs.Laws.{SecondCounts, Unposted}
 use Rattle.daybook.specs.Readings.{Reading, both, into, read}
 use Rattle.daybook.specs.Records.{Record, price, generator_hour, load_hour, the_hour, posted_to, hour_in, in_entry, standing}
 use Rattle.daybook.proofs.Lawful.{nothing_was_due}
+use Rattle.daybook.proofs.Slots.{some_mapped}
 use Rattle.daybook.proofs.Standing.{found_changed}
 use Rattle.daybook.proofs.Taking.{from-into, from-both}
 use Rattle.daybook.proofs.Updates.{with_hours}
@@ -31,19 +33,7 @@ module _ {E : Type 0} (key : E → ℕ) (k : ℕ) where
   -- the second change leaves nothing of the first
   changed_twice : (f g : E → E) → ((x : E) → key (g x) ≡ key x) → ((x : E) → f (g x) ≡ f x) → (xs : List E) → updated key k f (updated key k g xs) ≡ updated key k f xs
   changed_twice f g keeps over [] = refl
-  changed_twice f g keeps over (x ∷ xs) =
-      ⊎_elim
-      (λ t.
-      ap (updated key k f) (cond-true _ _ _ t)
-      ∙ cond-true _ _ _ (eq-eqb (key (g x)) k (keeps x ∙ eqb-true (key x) k t))
-      ∙ ap (λ y. y ∷ xs) (over x)
-      ∙ sym (cond-true _ _ _ t))
-      (λ n.
-      ap (updated key k f) (cond-false _ _ _ n)
-      ∙ cond-false _ _ _ n
-      ∙ ap (λ ys. x ∷ ys) (changed_twice f g keeps over xs)
-      ∙ sym (cond-false _ _ _ n))
-      (cases_Bool (eqb (key x) k))
+  changed_twice f g keeps over (x ∷ xs) = let ih = changed_twice f g keeps over xs in let same = keeps x in let once = over x in grind (arith, nat_tests)
 
   -- a change that leaves the entry as it is
   unchanged : (f : E → E) (xs : List E) → ((e : E) → lookup key k xs ≡ Some e → f e ≡ e) → updated key k f xs ≡ xs
@@ -53,10 +43,6 @@ module _ {E : Type 0} (key : E → ℕ) (k : ℕ) where
       (λ t. cond-true _ _ _ t ∙ ap (λ y. y ∷ xs) (same x (cond-true _ _ _ t)))
       (λ n. cond-false _ _ _ n ∙ ap (λ ys. x ∷ ys) (unchanged f xs (λ e is. same e (cond-false _ _ _ n ∙ is))))
       (cases_Bool (eqb (key x) k))
-
-some_changed : {X : Type 0} (f : X → X) (o : Option X) → is_some (option_map f o) ≡ is_some o
-some_changed f None = refl
-some_changed f (Some x) = refl
 
 kind_changed : (kind : Sort → Bool) (f : Entry → Entry) → ((r : Entry) → (f r).unit ≡ r.unit) → (o : Option Entry) → is_a kind (option_map f o) ≡ is_a kind o
 kind_changed kind f same None = refl
@@ -80,7 +66,7 @@ module _ (v : Held) where
       let f = with_price h.number x in
       let g = with_price h.number y in
       let still : is_some (lookup place_key p (updated place_key p f v.places)) ≡ is_some (lookup place_key p v.places) =
-      ap is_some (found_changed place_key f (λ _. refl) p v.places) ∙ some_changed f (lookup place_key p v.places) in
+      ap is_some (found_changed place_key f (λ _. refl) p v.places) ∙ some_mapped f (lookup place_key p v.places) in
       twice v (brings (price p h x)) (brings (price p h y)) free free
       (λ i. option_or (option_or (cond (still i) None (Some (NotRegistered p Place))) None) (option_or None (option_or None (option_or (option_map DraftOut v.out) (option_or None None)))))
       (ap (with_places v) (changed_twice place_key p g f (λ _. refl) (λ q. ap (λ l. record { id = q.id; prices = record { slots = l } }) (set-set q.prices.slots (h.number - 1) (Some x) (Some y))) v.places))

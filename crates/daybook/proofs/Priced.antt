@@ -14,12 +14,12 @@ use Rattle.daybook.specs.Questions.{given, generator_asked}
 
 -- what is missing for the one value is missing for the other
 unless-out : {X Y : Type 0} (o : Option MissingPrice) (x : X) (y : Y) (e : Refusal) → Err e ≡ unless_missing o x → Err e ≡ unless_missing o y
-unless-out None x y e h = let z : ◌≡◌ {A = ℕ} 0 1 = cc in absurd (omega arith)
+unless-out None x y e h = cc
 unless-out (Some m) x y e h = let same : e ≡ refusal_of m = cc in ap Err same
 
 unless_in : {X Y : Type 0} (o : Option MissingPrice) (w x : X) (y : Y) → Ok w ≡ unless_missing o x → (w ≡ x) × (Ok y ≡ unless_missing o y)
 unless_in None w x y h = (cc, refl)
-unless_in (Some m) w x y h = let z : ◌≡◌ {A = ℕ} 0 1 = cc in absurd (omega arith)
+unless_in (Some m) w x y h = cc
 
 module _ {X : Type 0} (v : Held) (id : ℤ) (F : Generator × Resource → X) (x : Generator × Resource) (is : Ok x ≡ generator_asked v id) where
   abbrev figure : Result (Generator × Resource) Refusal → Result X Refusal

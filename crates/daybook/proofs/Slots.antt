@@ -9,7 +9,7 @@ use Rattle.figures.specs.Entries.{resource_key}
 use Rattle.daybook.specs.Held.{Held}
 use Rattle.daybook.specs.Records.{the_hour, posted_to, hour_in, in_entry, standing}
 
-some_mapped : {X Y : Type 0} (f : X → Y) (o : Option X) → is_some (option_map f o) ≡ is_some o
+pub some_mapped : {X Y : Type 0} (f : X → Y) (o : Option X) → is_some (option_map f o) ≡ is_some o
 some_mapped f None = refl
 some_mapped f (Some x) = refl
 
