@@ -1,20 +1,16 @@
 -- What an act answers, by what its tests told.
-use Rattle.std.proofs.Common.{◌≡◌, ℕ, Bool, true, cond, [], ◌∷◌, is_some, Some, None, Ok, Err, Option, Result, sym, refl, ap, ◌∙◌, arith}
-use Rattle.std.specs.Option.{option_map, option_or, ok_or}
+use Rattle.std.proofs.Common.{◌≡◌, ℕ, Bool, true, cond, [], ◌∷◌, is_some, Some, None, Ok, Err, Option, sym, refl, ap, ◌∙◌, arith}
+use Rattle.std.specs.Option.{option_or, ok_or}
 use Rattle.refusal.specs.declared.cause.Refusal.{Refusal}
-use Rattle.refusal.specs.declared.cause.Refusal.TheVariants.{NotRegistered, InUse, Full, DraftOut}
-use Rattle.refusal.specs.declared.kinds.Kind.TheVariants.{Member, Place, Resource}
-use Rattle.refusal.specs.declared.kinds.Store.TheVariants.{Table}
 use Rattle.figures.specs.declared.standing.Unit.{Unit as Sort}
 use Rattle.std.proofs.lemmas.Grind.{common_steps}
 use Rattle.figures.specs.declared.standing.Resource.{Resource as Entry}
 use Rattle.figures.specs.Prices.{first}
-use Rattle.daybook.specs.Calls.{Act, brings}
+use Rattle.daybook.specs.Calls.{Act}
 use Rattle.daybook.specs.Changes.{unless, replied, done, Answers}
-use Rattle.daybook.specs.Due.{due_to, registered, a_member, a_place, a_resource, is_full, is_a}
+use Rattle.daybook.specs.Due.{due_to, is_a}
 use Rattle.daybook.specs.Finding.{found_as}
 use Rattle.daybook.specs.Held.{Held}
-use Rattle.daybook.specs.Records.{resource}
 
 pub due-from : (o : Option Refusal) (e : Refusal) → Err e ≡ replied o → o ≡ Some e
 due-from None e h = cc

@@ -1,12 +1,10 @@
 -- An hour that is posted twice, and one that is posted and struck.
-use Rattle.std.proofs.Common.{◌≡◌, ℕ, ◌-◌, Bool, cond, eqb, List, [], ◌∷◌, ℤ, is_some, Some, None, Ok, Err, Option, Result, sym, refl, ap, ◌∙◌, ⊎_elim, arith}
-use Rattle.std.specs.Option.{option_map, option_or}
+use Rattle.std.proofs.Common.{◌≡◌, ℕ, ◌-◌, Bool, eqb, List, [], ◌∷◌, ℤ, is_some, Some, None, Ok, Err, Option, Result, sym, refl, ap, ◌∙◌, ⊎_elim, arith}
+use Rattle.std.specs.Option.{option_map}
 use Rattle.std.proofs.lemmas.List.{set-set, set-get_or}
 use Rattle.std.proofs.lemmas.Bool.Decides.{nat_tests}
-use Rattle.std.proofs.lemmas.Bool.{cond-true, cond-false, eq-eqb, eqb-true, cases_Bool, both_ways}
+use Rattle.std.proofs.lemmas.Bool.{cond-true, cond-false, cases_Bool}
 use Rattle.refusal.specs.declared.cause.Refusal.{Refusal}
-use Rattle.refusal.specs.declared.cause.Refusal.TheVariants.{NotRegistered, DraftOut}
-use Rattle.refusal.specs.declared.kinds.Kind.TheVariants.{Place, Resource}
 use Rattle.table.specs.Entries.{lookup}
 use Rattle.hours.specs.declared.day.Hour.{Hour}
 use Rattle.hours.specs.declared.records.HourRecord.{HourRecord}
@@ -68,7 +66,7 @@ module _ (v : Held) where
       let still : is_some (lookup place_key p (updated place_key p f v.places)) ≡ is_some (lookup place_key p v.places) =
       ap is_some (found_changed place_key f (λ _. refl) p v.places) ∙ some_mapped f (lookup place_key p v.places) in
       twice v (brings (price p h x)) (brings (price p h y)) free free
-      (λ i. option_or (option_or (cond (still i) None (Some (NotRegistered p Place))) None) (option_or None (option_or None (option_or (option_map DraftOut v.out) (option_or None None)))))
+      (rw still)
       (ap (with_places v) (changed_twice place_key p g f (λ _. refl) (λ q. ap (λ l. record { id = q.id; prices = record { slots = l } }) (set-set q.prices.slots (h.number - 1) (Some x) (Some y))) v.places))
 
   pub hour_over : (k : ℕ) (h : Hour) (a b : Option HourRecord) → hour_changed k h.number b (hour_changed k h.number a v) ≡ hour_changed k h.number b v
@@ -84,13 +82,13 @@ module _ (v : Held) where
   pub generator-twice : (k : ℕ) (h : Hour) (x y : HourRecord) → due_to v (brings (generator_hour k h y)) ≡ None → after_act (after_act v (brings (generator_hour k h x))) (brings (generator_hour k h y)) ≡ after_act v (brings (generator_hour k h y))
   generator-twice k h x y free =
       twice v (brings (generator_hour k h x)) (brings (generator_hour k h y)) free free
-      (λ i. option_or (option_or (cond (still_a is_generator k h x i) None (Some (NotRegistered k Resource))) None) (option_or None (option_or None (option_or (option_map DraftOut v.out) (option_or None None)))))
+      (rw (still_a is_generator k h x))
       (hour_over k h (Some x) (Some y))
 
   pub load_twice : (k : ℕ) (h : Hour) (x y : HourRecord) → due_to v (brings (load_hour k h y)) ≡ None → after_act (after_act v (brings (load_hour k h x))) (brings (load_hour k h y)) ≡ after_act v (brings (load_hour k h y))
   load_twice k h x y free =
       twice v (brings (load_hour k h x)) (brings (load_hour k h y)) free free
-      (λ i. option_or (option_or (cond (still_a is_load k h x i) None (Some (NotRegistered k Resource))) None) (option_or None (option_or None (option_or (option_map DraftOut v.out) (option_or None None)))))
+      (rw (still_a is_load k h x))
       (hour_over k h (Some x) (Some y))
 
   -- striking where nothing stands
@@ -99,7 +97,7 @@ module _ (v : Held) where
     where
       go : (o : Option HourRecord) → option_map (posted_to r.unit r.id h) o ≡ None → o ≡ None
       go None e = refl
-      go (Some x) e = absurd (both_ways _ (ap is_some e) refl)
+      go (Some x) e = cc
 
   never_there : (k : ℕ) (h : Hour) → standing v (the_hour k h) ≡ None → hour_changed k h.number None v ≡ v
   never_there k h none =
@@ -112,7 +110,7 @@ module _ (v : Held) where
 -- the act that a call which is not refused asks for
 asked_ok : (v : Held) (x : Result Act Refusal) → due_if v x ≡ None → (a : Act) × (x ≡ Ok a) × (due_to v a ≡ None)
 asked_ok v (Ok a) h = (a, refl, h)
-asked_ok v (Err e) h = absurd (both_ways _ (ap is_some h) refl)
+asked_ok v (Err e) h = cc
 
 -- two calls that are read from the same id and hour, each as an act of the same kind
 module _ {X : Type 0} (kind : ℕ → Hour → X → Record) (first second : Call) (r h : ℤ) (s t : Reading X)

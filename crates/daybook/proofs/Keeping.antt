@@ -1,5 +1,5 @@
 -- What the changes of a table keep: what is named is still there, and ids are still ids.
-use Rattle.std.proofs.Common.{◌≡◌, ℕ, ◌-◌, ◌≤◌, Bool, true, false, cond, eqb, ltb, leb, List, [], ◌∷◌, map, length, is_some, is_ok, Some, Option, sym, refl, ap, ◌∙◌, ⊎_elim, length-set, arith}
+use Rattle.std.proofs.Common.{◌≡◌, ℕ, ◌-◌, ◌≤◌, Bool, true, eqb, leb, List, [], ◌∷◌, map, is_some, is_ok, Some, Option, refl, ap, ◌∙◌, length-set, arith}
 use Rattle.std.proofs.lemmas.Bool.{cond_both, le-leb}
 use Rattle.std.proofs.lemmas.Grind.{common_steps}
 use Rattle.table.specs.Entries.{lookup, inserted, replaced}

@@ -1,7 +1,7 @@
 -- The members of a book own all its resources, each once, so that what they come to adds up.
-use Rattle.std.proofs.Common.{◌≡◌, ℕ, ◌≤◌, true, false, ◌&&◌, ltb, List, [], ◌∷◌, length, ℤ, nat_abs, IfOk, Ok, Err, Result, sym, refl, ap, ◌∙◌, subst, arith}
+use Rattle.std.proofs.Common.{◌≡◌, ℕ, ◌≤◌, true, false, ◌&&◌, List, [], ◌∷◌, length, ℤ, nat_abs, IfOk, Ok, Err, Result, sym, refl, ap, ◌∙◌, subst, arith}
 use Rattle.std.proofs.lemmas.List.{length-map}
-use Rattle.std.proofs.lemmas.Bool.{and_parts, and_from, or_from, ltb-true, ne_eqb, not_from_false}
+use Rattle.std.proofs.lemmas.Grind.{common_steps}
 use Rattle.sharing.specs.Admission.{most_total}
 use Rattle.table.specs.Entries.{rises_from, rises, Rising}
 use Rattle.figures.specs.declared.standing.Place.{Place}
@@ -15,20 +15,15 @@ use Rattle.daybook.specs.Questions.{rows_of, Pooled, Shareable}
 
 not-among : (j k : ℕ) (ids : List ℕ) → j ≤ k → rises_from k ids ≡ true → among ids j ≡ false
 not-among j k [] l h = refl
-not-among j k (id ∷ ids) l h =
-    let p = and_parts (ltb k id) (rises_from id ids) h in
-    let above = ltb-true k id p.0 in
-    or_from _ _ (ne_eqb j id (λ e. omega arith)) (not-among j id ids (omega arith) p.1)
+not-among j k (id ∷ ids) l h = let ih = not-among j id ids in grind (arith, common_steps)
 
 apart_from : (k : ℕ) (ids : List ℕ) → rises_from k ids ≡ true → apart ids ≡ true
 apart_from k [] h = refl
-apart_from k (id ∷ ids) h =
-    let p = and_parts (ltb k id) (rises_from id ids) h in
-    and_from _ _ (not_from_false _ (not-among id id ids (omega arith) p.1)) (apart_from id ids p.1)
+apart_from k (id ∷ ids) h = let ih = apart_from id ids in let alone = not-among id id ids in grind (arith, common_steps)
 
 rising_apart : (ids : List ℕ) → rises ids ≡ true → apart ids ≡ true
 rising_apart [] h = refl
-rising_apart (id ∷ ids) h = and_from _ _ (not_from_false _ (not-among id id ids (omega arith) h)) (apart_from id ids h)
+rising_apart (id ∷ ids) h = let rest = apart_from id ids h in let alone = not-among id id ids in grind (arith, common_steps)
 
 members_own : (ids : List ℕ) (rs : List Resource) → all_members ids rs ≡ all_owned ids rs
 members_own ids [] = refl

@@ -1,5 +1,5 @@
 -- A figure of a generator that needs its prices.
-use Rattle.std.proofs.Common.{◌≡◌, ℕ, ℤ, Some, None, Ok, Err, Option, Result, sym, refl, ap, ◌∙◌, arith}
+use Rattle.std.proofs.Common.{◌≡◌, ℤ, Some, None, Ok, Err, Option, Result, sym, refl, ap, ◌∙◌}
 use Rattle.refusal.specs.declared.cause.Refusal.{Refusal}
 use Rattle.hours.specs.declared.day.Day.{Day}
 use Rattle.hours.specs.declared.records.Price.{Price}

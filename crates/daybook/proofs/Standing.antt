@@ -2,7 +2,7 @@
 use Rattle.std.proofs.Common.{◌≡◌, ℕ, ◌-◌, Bool, true, false, cond, eqb, List, [], ◌∷◌, length, get_or, replicate, is_some, Some, None, Option, sym, refl, ap, ◌∙◌, ⊎_elim, arith}
 use Rattle.std.specs.Option.{option_map, option_or}
 use Rattle.std.proofs.lemmas.List.{get_or-replicate, get_or-set_same, get_or-set_other, get_or_past}
-use Rattle.std.proofs.lemmas.Bool.{cond-true, cond-false, eq-eqb, ne_eqb, eqb-true, cases_Bool, cases_eq, cases_lt, not-true, both_ways}
+use Rattle.std.proofs.lemmas.Bool.{cond-true, cond-false, eq-eqb, ne_eqb, eqb-true, cases_Bool, cases_eq, cases_lt, not-true}
 use Rattle.std.proofs.lemmas.Bool.Decides.{nat_tests}
 use Rattle.table.specs.Entries.{lookup, inserted}
 use Rattle.table.proofs.Laws.{lookup-inserted}
@@ -28,26 +28,26 @@ use Rattle.daybook.proofs.Updates.{key_found}
 -- the tests of an act that is not refused
 both-none : (o p : Option Refusal) → option_or o p ≡ None → (o ≡ None) × (p ≡ None)
 both-none None p h = (refl, h)
-both-none (Some e) p h = absurd (both_ways _ (ap is_some h) refl)
+both-none (Some e) p h = cc
 
 free : (b : Bool) (e : Refusal) → cond b (Some e) None ≡ None → b ≡ false
 free false e h = refl
-free true e h = absurd (both_ways _ (ap is_some h) refl)
+free true e h = cc
 
 there : (b : Bool) (e : Refusal) → cond b None (Some e) ≡ None → b ≡ true
 there true e h = refl
-there false e h = absurd (both_ways _ (ap is_some h) refl)
+there false e h = cc
 
 none_from : {X : Type 0} (o : Option X) → is_some o ≡ false → o ≡ None
 none_from None h = refl
-none_from (Some x) h = absurd (both_ways _ h refl)
+none_from (Some x) h = cc
 
 some_from : {X : Type 0} (o : Option X) → is_some o ≡ true → (x : X) × (o ≡ Some x)
-some_from None h = absurd (both_ways _ refl h)
+some_from None h = cc
 some_from (Some x) h = (x, refl)
 
 a_from : (kind : Sort → Bool) (o : Option Resource) → is_a kind o ≡ true → (r : Resource) × (o ≡ Some r) × (kind r.unit ≡ true)
-a_from kind None h = absurd (both_ways _ refl h)
+a_from kind None h = cc
 a_from kind (Some r) h = (r, refl, h)
 
 -- the slots of a day
@@ -78,9 +78,6 @@ module _ {E : Type 0} (key : E → ℕ) where
     pub found_changed : (k : ℕ) (xs : List E) → lookup key k (updated key k f xs) ≡ option_map f (lookup key k xs)
     found_changed k xs = lookup-updated k k xs ∙ cond-true _ _ _ (eq-eqb k k refl)
 
-    found_other : (k j : ℕ) (xs : List E) → (k ≡ j → ⊥) → lookup key j (updated key k f xs) ≡ lookup key j xs
-    found_other k j xs other = lookup-updated k j xs ∙ cond-false _ _ _ (ne_eqb k j other)
-
 -- an entry that changed in its hours or prices alone
 module _ {X : Type 0} where
   mapped_through : (f : X → X) (g : X → Record) → ((x : X) → g (f x) ≡ g x) → (o : Option X) → option_map g (option_map f o) ≡ option_map g o
@@ -90,6 +87,10 @@ module _ {X : Type 0} where
   entry_through : (f : X → X) (g : X → Option Record) → ((x : X) → g (f x) ≡ g x) → (o : Option X) → in_entry g (option_map f o) ≡ in_entry g o
   entry_through f g same None = refl
   entry_through f g same (Some x) = same x
+
+same_either : {A B : Type 0} (h : A → B) (b : Bool) (x y : A) → (b ≡ true → h x ≡ h y) → h (cond b x y) ≡ h y
+same_either h true x y e = e refl
+same_either h false x y e = refl
 
 module _ (v : Held) where
   -- registering
@@ -141,24 +142,15 @@ module _ (v : Held) where
     price_others : (n : Name) → (n ≡ the_price p h → ⊥) → standing (done (brings (price p h x)) v) n ≡ standing v n
     price_others (the_member k) d = refl
     price_others (the_place k) d =
-        ⊎_elim
-        (λ e. ap (λ i. option_map place_in (lookup place_key i (updated place_key p (with_price h.number x) v.places))) (sym e)
-        ∙ ap (option_map place_in) (found_changed place_key (with_price h.number x) (λ _. refl) p v.places)
-        ∙ mapped_through (with_price h.number x) place_in (λ _. refl) (lookup place_key p v.places)
-        ∙ ap (λ i. option_map place_in (lookup place_key i v.places)) e)
-        (λ q. ap (option_map place_in) (found_other place_key (with_price h.number x) (λ _. refl) p k v.places q))
-        (cases_eq p k)
+        ap (option_map place_in) (lookup-updated place_key (with_price h.number x) (λ _. refl) p k v.places)
+        ∙ same_either (option_map place_in) (eqb p k) _ _ (λ _. mapped_through (with_price h.number x) place_in (λ _. refl) (lookup place_key k v.places))
     price_others (the_resource k) d = refl
     price_others (the_price k g) d =
-        ⊎_elim
-        (λ e.
-        let apart : g.number ≡ h.number → ⊥ = λ q. d (λ i. the_price (sym e i) (same_hour g h q i)) in
-        ap (λ i. in_entry (price_in g) (lookup place_key i (updated place_key p (with_price h.number x) v.places))) (sym e)
-        ∙ ap (in_entry (price_in g)) (found_changed place_key (with_price h.number x) (λ _. refl) p v.places)
-        ∙ entry_through (with_price h.number x) (price_in g) (λ y. ap (option_map (price y.id g)) (other_slot y.prices.slots h g (Some x) apart)) (lookup place_key p v.places)
-        ∙ ap (λ i. in_entry (price_in g) (lookup place_key i v.places)) e)
-        (λ q. ap (in_entry (price_in g)) (found_other place_key (with_price h.number x) (λ _. refl) p k v.places q))
-        (cases_eq p k)
+        ap (in_entry (price_in g)) (lookup-updated place_key (with_price h.number x) (λ _. refl) p k v.places)
+        ∙ same_either (in_entry (price_in g)) (eqb p k) _ _
+        (λ t.
+        let apart : g.number ≡ h.number → ⊥ = λ q. d (λ i. the_price (sym (eqb-true p k t) i) (same_hour g h q i)) in
+        entry_through (with_price h.number x) (price_in g) (λ y. ap (option_map (price y.id g)) (other_slot y.prices.slots h g (Some x) apart)) (lookup place_key k v.places))
     price_others (the_hour k g) d = refl
 
     price-stands : every has_whole_prices v.places ≡ true → is_some (lookup place_key p v.places) ≡ true → standing (done (brings (price p h x)) v) (the_price p h) ≡ Some (price p h x)
@@ -175,24 +167,15 @@ module _ (v : Held) where
     hour_others (the_member j) d = refl
     hour_others (the_place j) d = refl
     hour_others (the_resource j) d =
-        ⊎_elim
-        (λ e. ap (λ i. option_map resource_in (lookup resource_key i (updated resource_key k (with_hour h.number slot) v.resources))) (sym e)
-        ∙ ap (option_map resource_in) (found_changed resource_key (with_hour h.number slot) (λ _. refl) k v.resources)
-        ∙ mapped_through (with_hour h.number slot) resource_in (λ _. refl) (lookup resource_key k v.resources)
-        ∙ ap (λ i. option_map resource_in (lookup resource_key i v.resources)) e)
-        (λ q. ap (option_map resource_in) (found_other resource_key (with_hour h.number slot) (λ _. refl) k j v.resources q))
-        (cases_eq k j)
+        ap (option_map resource_in) (lookup-updated resource_key (with_hour h.number slot) (λ _. refl) k j v.resources)
+        ∙ same_either (option_map resource_in) (eqb k j) _ _ (λ _. mapped_through (with_hour h.number slot) resource_in (λ _. refl) (lookup resource_key j v.resources))
     hour_others (the_price j g) d = refl
     hour_others (the_hour j g) d =
-        ⊎_elim
-        (λ e.
-        let apart : g.number ≡ h.number → ⊥ = λ q. d (λ i. the_hour (sym e i) (same_hour g h q i)) in
-        ap (λ i. in_entry (hour_in g) (lookup resource_key i (updated resource_key k (with_hour h.number slot) v.resources))) (sym e)
-        ∙ ap (in_entry (hour_in g)) (found_changed resource_key (with_hour h.number slot) (λ _. refl) k v.resources)
-        ∙ entry_through (with_hour h.number slot) (hour_in g) (λ y. ap (option_map (posted_to y.unit y.id g)) (other_slot y.hours.slots h g slot apart)) (lookup resource_key k v.resources)
-        ∙ ap (λ i. in_entry (hour_in g) (lookup resource_key i v.resources)) e)
-        (λ q. ap (in_entry (hour_in g)) (found_other resource_key (with_hour h.number slot) (λ _. refl) k j v.resources q))
-        (cases_eq k j)
+        ap (in_entry (hour_in g)) (lookup-updated resource_key (with_hour h.number slot) (λ _. refl) k j v.resources)
+        ∙ same_either (in_entry (hour_in g)) (eqb k j) _ _
+        (λ t.
+        let apart : g.number ≡ h.number → ⊥ = λ q. d (λ i. the_hour (sym (eqb-true k j t) i) (same_hour g h q i)) in
+        entry_through (with_hour h.number slot) (hour_in g) (λ y. ap (option_map (posted_to y.unit y.id g)) (other_slot y.hours.slots h g slot apart)) (lookup resource_key j v.resources))
 
     hour_stands_as : every has_whole_hours v.resources ≡ true → (y : Resource) → lookup resource_key k v.resources ≡ Some y → standing (hour_changed k h.number slot v) (the_hour k h) ≡ option_map (posted_to y.unit k h) slot
     hour_stands_as whole y found =

@@ -1,12 +1,12 @@
 -- What is read of two lists of numbers, one behind the other.
-use Rattle.std.proofs.Common.{◌≡◌, ℕ, suc, ◌+◌, ◌^◌, ◌<◌, ◌≤◌, Bool, true, false, cond, ◌&&◌, List, [], ◌∷◌, ◌++◌, length, ℤ, IfErr, Ok, Err, Result, sym, refl, ap, ◌∙◌, zero-add, arith, w64, SFits, to_z, of_z, MatchResult}
+use Rattle.std.proofs.Common.{◌≡◌, ℕ, suc, ◌+◌, ◌^◌, ◌<◌, ◌≤◌, Bool, true, false, List, [], ◌∷◌, ◌++◌, length, ℤ, IfErr, Ok, Err, Result, sym, refl, ap, ◌∙◌, zero-add, arith, w64, SFits, to_z, of_z, MatchResult}
 use Rattle.std.proofs.lemmas.Int.{to_z-of_z}
-use Rattle.std.proofs.lemmas.Bool.{cond-true, cond-false, cond_both, and_parts, and_from, and_left, both_ways}
+use Rattle.std.proofs.lemmas.Grind.{common_steps}
 use Rattle.refusal.specs.declared.cause.Refusal.{Refusal}
 use Rattle.refusal.specs.declared.cause.Refusal.TheVariants.{FieldOutOfRange}
 use Rattle.hours.specs.declared.range.Field.{Field}
 use Rattle.hours.specs.declared.range.OutOfRange.{OutOfRange}
-use Rattle.hours.specs.Ranges.{fits, all_fit, first_out, out_of_range, when_true, made}
+use Rattle.hours.specs.Ranges.{all_fit, first_out, out_of_range, when_true, made}
 use Rattle.hours.proofs.Ranges.{made-is, refused-is}
 use Rattle.daybook.specs.Readings.{Reading, both, into, read, behind, front, back}
 
@@ -20,41 +20,29 @@ told false f o n (Err y) e = (refl, cc)
 
 fit_join : (fs gs : List Field) → all_fit fs ≡ true → all_fit gs ≡ true → all_fit (fs ++ gs) ≡ true
 fit_join [] gs h k = k
-fit_join (f ∷ fs) gs h k = let p = and_parts (fits f) (all_fit fs) h in and_from _ _ p.0 (fit_join fs gs p.1 k)
+fit_join (f ∷ fs) gs h k = let ih = fit_join fs gs in grind (arith, common_steps)
 
 out-before : (fs gs : List Field) (n : ℕ) → all_fit fs ≡ false → (all_fit (fs ++ gs) ≡ false) × (first_out n (fs ++ gs) ≡ first_out n fs)
-out-before [] gs n h = absurd (both_ways _ h refl)
-out-before (f ∷ fs) gs n h = go (fits f) refl (out-before fs gs (n + 1))
-  where
-    go : (b : Bool) → fits f ≡ b → (all_fit fs ≡ false → (all_fit (fs ++ gs) ≡ false) × (first_out (n + 1) (fs ++ gs) ≡ first_out (n + 1) fs))
-        → (all_fit (f ∷ fs ++ gs) ≡ false) × (first_out n (f ∷ fs ++ gs) ≡ first_out n (f ∷ fs))
-    go true e more =
-        let k = more (ap (λ b. b && all_fit fs) (sym e) ∙ h) in
-        (ap (λ b. b && all_fit (fs ++ gs)) e ∙ k.0, cond-true _ _ _ e ∙ k.1 ∙ sym (cond-true _ _ _ e))
-    go false e more = (and_left _ _ e, cond-false _ _ _ e ∙ sym (cond-false _ _ _ e))
+out-before [] gs n h = cc
+out-before (f ∷ fs) gs n h = let ih = out-before fs gs (n + 1) in (grind (arith, common_steps), grind (arith, common_steps))
 
 out-behind : (fs gs : List Field) (n : ℕ) → all_fit fs ≡ true → all_fit gs ≡ false → (all_fit (fs ++ gs) ≡ false) × (first_out n (fs ++ gs) ≡ first_out (length fs + n) gs)
 out-behind [] gs n h k = (k, ap (λ m. first_out m gs) (sym (zero-add n)))
 out-behind (f ∷ fs) gs n h k =
-    let p = and_parts (fits f) (all_fit fs) h in
-    let q = out-behind fs gs (n + 1) p.1 k in
+    let ih = out-behind fs gs (n + 1) in
     let m : length fs + (n + 1) ≡ suc (length fs) + n = omega arith in
-    (ap (λ b. fits f && b) q.0 ∙ ap (λ b. b && false) p.0, cond-true _ _ _ p.0 ∙ q.1 ∙ ap (λ i. first_out i gs) m)
+    (grind (arith, common_steps), grind (arith, common_steps))
 
 counted_on : (fs : List Field) (n m : ℕ) → first_out (n + m) fs ≡ n + first_out m fs
 counted_on [] n m = refl
 counted_on (f ∷ fs) n m =
-    let more : first_out (n + m + 1) fs ≡ n + first_out (m + 1) fs = ap (λ i. first_out i fs) (the_sum n m) ∙ counted_on fs n (m + 1) in
-    elim (fits f) as (λ b. cond b (first_out (n + m + 1) fs) (n + m) ≡ n + cond b (first_out (m + 1) fs) m) [ true ↦ more | false ↦ refl ]
-  where
-    the_sum : (a b : ℕ) → a + b + 1 ≡ a + (b + 1)
-    the_sum a b = omega arith
+    let ih = counted_on fs n (m + 1) in
+    let e : n + m + 1 ≡ n + (m + 1) = omega arith in
+    grind (arith, common_steps)
 
 within : (fs : List Field) (n : ℕ) → first_out n fs ≤ n + length fs
 within [] n = omega arith
-within (f ∷ fs) n =
-    let k = within fs (n + 1) in
-    cond_both (fits f) (first_out (n + 1) fs) n (λ m. m ≤ n + suc (length fs)) (λ _. omega arith) (λ _. omega arith)
+within (f ∷ fs) n = let ih = within fs (n + 1) in grind (arith, common_steps)
 
 -- a position is small, so that the numbers before it can be added
 pub small : {X : Type 0} (n : ℕ) (fs : List Field) (make : all_fit fs ≡ true → X) (r : Result X OutOfRange) → r ≡ made fs make → n + length fs < 1000

@@ -1,4 +1,4 @@
-use Rattle.std.proofs.Common.{is_some, Some, refl, ap, ◌∙◌}
+use Rattle.std.proofs.Common.{is_some, refl, ap, ◌∙◌}
 use Rattle.std.specs.Option.{option_map}
 use Rattle.refusal.specs.declared.cause.Refusal.TheVariants.{NotRegistered, DraftOut}
 use Rattle.refusal.specs.declared.kinds.Kind.TheVariants.{Place}
@@ -7,12 +7,9 @@ use Rattle.table.specs.Tables.{entries}
 use Rattle.figures.specs.Entries.{place_key}
 use Rattle.daybook.specs.Changes.{with_price}
 use Rattle.daybook.specs.Held.{held, with_places}
-use Rattle.daybook.specs.Numbers.{has_whole_prices}
 use Rattle.daybook.proofs.Acts.{accepted, found-is, post_free}
-use Rattle.daybook.proofs.Keeping.{found_passes, still_whole}
 use Rattle.daybook.proofs.Updates.{put_back}
 use Rattle.daybook.proofs.book.DayBook.enter_price.Goals as goal
-
 
 pub returns : goal.returns
 returns c =

@@ -1,5 +1,3 @@
-use Rattle.std.proofs.Common.{◌∙◌}
-use Rattle.figures.specs.Pots.{pots}
 use Rattle.daybook.specs.Held.{held}
 use Rattle.daybook.proofs.Pooling.{pooled, made-both}
 use Rattle.daybook.proofs.book.DayBook.pots.Goals as goal

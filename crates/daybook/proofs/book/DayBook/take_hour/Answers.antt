@@ -8,9 +8,8 @@ use Rattle.figures.specs.Entries.{resource_key, ids_of_members, ids_of_places}
 use Rattle.figures.specs.Owners.{among}
 use Rattle.daybook.specs.Changes.{with_hour}
 use Rattle.daybook.specs.Held.{held, with_resources}
-use Rattle.daybook.specs.Numbers.{has_whole_hours}
 use Rattle.daybook.proofs.Acts.{accepted, found_ok, found-is, nothing-due}
-use Rattle.daybook.proofs.Keeping.{found_passes, still_whole}
+use Rattle.daybook.proofs.Keeping.{found_passes}
 use Rattle.daybook.proofs.Slots.{hour_stands}
 use Rattle.daybook.proofs.Updates.{put_back, with_hours}
 use Rattle.daybook.proofs.book.DayBook.take_hour.Goals as goal

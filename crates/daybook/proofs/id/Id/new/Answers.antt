@@ -1,7 +1,6 @@
 use Rattle.std.proofs.Common.{nat_abs, refl}
-use Rattle.std.proofs.lemmas.Result.{err_from_is_err_and}
 use Rattle.std.proofs.lemmas.Int.{to_z-of_z}
-use Rattle.hours.proofs.Ranges.{fit_too, made-is, refused-is}
+use Rattle.hours.proofs.Ranges.{fit_too, made-is}
 use Rattle.daybook.specs.Readings.{id_fields, id_made, id_bounds}
 use Rattle.daybook.proofs.Made.{same_id}
 use Rattle.daybook.proofs.id.Id.new.Goals as goal
