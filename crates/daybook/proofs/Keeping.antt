@@ -1,7 +1,8 @@
 -- What the changes of a table keep: what is named is still there, and ids are still ids.
-use Rattle.std.proofs.Common.{◌≡◌, ℕ, ◌-◌, ◌≤◌, Bool, true, eqb, leb, List, [], ◌∷◌, map, is_some, is_ok, Some, Option, refl, ap, ◌∙◌, length-set, arith}
+use Rattle.std.proofs.Common.{◌≡◌, ℕ, ◌-◌, ◌≤◌, Bool, true, eqb, leb, List, [], ◌∷◌, map, is_some, is_ok, Some, Option, refl, ap, ◌∙◌, length-set, arith, sym}
 use Rattle.std.proofs.lemmas.Bool.{cond_both, le-leb}
 use Rattle.std.proofs.lemmas.Grind.{common_steps}
+use Rattle.std.proofs.lemmas.List.Folds.{list_all-map}
 use Rattle.table.specs.Entries.{lookup, inserted, replaced}
 use Rattle.table.specs.Tables.{insert_reply, insert_after}
 use Rattle.figures.specs.declared.standing.Resource.{Resource}
@@ -23,17 +24,10 @@ module _ {E : Type 0} (key : E → ℕ) where
   named_inserted of e xs [] h = refl
   named_inserted of e xs (r ∷ rs) h = let ih = named_inserted of e xs rs in let here = among-inserted e (of r) xs in grind (arith, common_steps)
 
-  ids_inserted : (e : E) (xs : List E) → leb 1 (key e) ≡ true → all_ids (map key xs) ≡ true → all_ids (map key (inserted key e xs)) ≡ true
-  ids_inserted e [] one h = grind (arith, common_steps)
-  ids_inserted e (x ∷ xs) one h = let ih = ids_inserted e xs one in grind (arith, common_steps)
-
   -- whether the insertion is granted or not
   module _ (e : E) (xs : List E) (n : ℕ) where
     pub named_after : (of : Resource → ℕ) (rs : List Resource) → all_named of (map key xs) rs ≡ true → all_named of (map key (insert_after key e xs n)) rs ≡ true
     named_after of rs h = cond_both (is_ok (insert_reply key e xs n)) (inserted key e xs) xs (λ ys. all_named of (map key ys) rs ≡ true) (λ _. named_inserted of e xs rs h) (λ _. h)
-
-    pub ids_after : 1 ≤ key e → all_ids (map key xs) ≡ true → all_ids (map key (insert_after key e xs n)) ≡ true
-    ids_after one h = cond_both (is_ok (insert_reply key e xs n)) (inserted key e xs) xs (λ ys. all_ids (map key ys) ≡ true) (λ _. ids_inserted e xs (le-leb 1 (key e) one) h) (λ _. h)
 
 -- what all entries pass, where the one that goes in or takes another's place does too
 module _ {E : Type 0} (key : E → ℕ) (p : E → Bool) where
@@ -52,6 +46,11 @@ module _ {E : Type 0} (key : E → ℕ) (p : E → Bool) where
   pub found_passes : (k : ℕ) (xs : List E) (e : E) → lookup key k xs ≡ Some e → every p xs ≡ true → p e ≡ true
   found_passes k [] e is h = cc
   found_passes k (x ∷ xs) e is h = let ih = found_passes k xs e in grind (arith, common_steps)
+
+pub ids_after : {E : Type 0} (key : E → ℕ) (e : E) (xs : List E) (n : ℕ) → 1 ≤ key e → all_ids (map key xs) ≡ true → all_ids (map key (insert_after key e xs n)) ≡ true
+ids_after key e xs n one h =
+    list_all-map (leb 1) key (insert_after key e xs n)
+    ∙ every-after key (λ x. leb 1 (key x)) e (le-leb 1 (key e) one) xs n (sym (list_all-map (leb 1) key xs) ∙ h)
 
 -- a day keeps its slots
 pub still_whole : {X : Type 0} (slots : List (Option X)) (h : ℕ) (slot : Option X) → whole_day slots ≡ true → whole_day (placed slots h slot) ≡ true

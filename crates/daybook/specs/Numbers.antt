@@ -4,17 +4,16 @@
 --   all_ids      every id is at least 1; that it is at most 65,535, its type says
 --   whole_day    a day has twenty-four slots; has_whole_prices, has_whole_hours: those of a place and of a resource do
 --   draft_fits   at most 9,999 numbers are used, and the draft that is out has one of them
-use Rattle.std.specs.Prelude.{ℕ, Bool, true, ◌&&◌, List, [], ◌∷◌, length, Some, None, Option, ◌==◌, nat_le}
+use Rattle.std.specs.Prelude.{ℕ, Bool, ◌&&◌, List, length, Some, None, Option, ◌==◌, nat_le}
+use Rattle.std.specs.List.{list_all}
 use Rattle.figures.specs.declared.standing.Place.{Place}
 use Rattle.figures.specs.declared.standing.Resource.{Resource}
 
 abbrev pub every : {E : Type 0} → (E → Bool) → List E → Bool
-every p [] = true
-every p (x ∷ xs) = p x && every p xs
+every p xs = list_all p xs
 
 abbrev pub all_ids : List ℕ → Bool
-all_ids [] = true
-all_ids (id ∷ ids) = nat_le 1 id && all_ids ids
+all_ids ids = list_all (nat_le 1) ids
 
 abbrev pub whole_day : {X : Type 0} → List (Option X) → Bool
 whole_day slots = length slots == 24

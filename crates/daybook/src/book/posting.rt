@@ -61,7 +61,7 @@ impl<'a> DayBook<'a> {
         Ok(())
     }
 
-    // A place of the book with other prices.
+    // A place of the book with other prices. Apart from the next, since what the book's ghost fields ask of it differs.
     fn keep_place(&mut self, place: Place)
         requires { has_whole_prices place ≡ true }
         ensures { held self.new ≡ with_places (held self.old) (replaced place_key place (held self.old).places) }

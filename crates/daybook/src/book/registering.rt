@@ -15,6 +15,7 @@ use figures::{Member, Place, Resource, Unit};
 use refusal::{Kind, Refusal, Store};
 use table::{Keyed, Table};
 
+// One function a table: the book's ghost fields tie each table to the others in a way of its own.
 impl<'a> DayBook<'a> {
     // Whether a new entry may be registered in a table now.
     fn may_add<E: Keyed<Key = u16> + Copy>(
