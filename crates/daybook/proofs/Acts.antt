@@ -1,5 +1,6 @@
 -- What an act answers, by what its tests told.
-use Rattle.std.proofs.Common.{◌≡◌, ℕ, Bool, true, cond, [], ◌∷◌, is_some, Some, None, Ok, Err, Option, sym, refl, ap, ◌∙◌, arith}
+use Rattle.std.proofs.Common.{◌≡◌, ℕ, Bool, true, cond, [], ◌∷◌, is_some, Some, None, Ok, Err, Option, sym, refl, ap, ◌∙◌, arith, IsErrAnd, Result}
+use Rattle.std.proofs.lemmas.Result.{err_from_is_err_and}
 use Rattle.std.specs.Option.{option_or, ok_or}
 use Rattle.refusal.specs.declared.cause.Refusal.{Refusal}
 use Rattle.figures.specs.declared.standing.Unit.{Unit as Sort}
@@ -19,6 +20,13 @@ due-from (Some d) e h = cc
 pub free-from : (o : Option Refusal) → Ok tt ≡ replied o → o ≡ None
 free-from None h = refl
 free-from (Some d) h = cc
+
+-- a `?` that hands on the refusal
+pub refused : (a : Act) (v : Held) {e : Refusal} (r : Result (Unit {0}) Refusal) → IsErrAnd r (λ y. y ≡ e) → Err e ≡ replied (due_to v a) → Answers a v v r
+refused a v r told h =
+    let y = err_from_is_err_and r told in
+    let is : r ≡ replied (due_to v a) = y.1 ∙ ap Err y.2 ∙ h in
+    record { reply = is; holds = ap (λ o. unless o (done a v) v) (sym (due-from (due_to v a) _ h)) }
 
 pub found_ok : {X : Type 0} (o : Option X) (x : X) (e : Refusal) → Ok x ≡ ok_or o e → is_some o ≡ true
 found_ok None x e h = cc

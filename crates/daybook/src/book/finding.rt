@@ -30,6 +30,7 @@ fn found<E: Keyed<Key = u16> + Copy>(table: &Table<'_, E>, id: Id, kind: Kind) -
     table.get(id.number).ok_or(not_registered(id, kind))
 }
 
+// Each table with the kind that its entries are registered as.
 impl<'a> DayBook<'a> {
     pub(crate) fn member(&self, id: Id) -> Result<Member, Refusal>
         ensures { result ≡ ok_or (lookup member_key id.number (held self.now).members) (NotRegistered id.number Kind.Member) }

@@ -3,8 +3,15 @@ use Rattle.table.specs.Tables.{entries, room}
 use Rattle.figures.specs.Entries.{place_key, ids_of_places}
 use Rattle.figures.specs.Named.{all_placed}
 use Rattle.daybook.specs.Numbers.{every, all_ids, has_whole_prices}
+use Rattle.daybook.specs.Calls.{brings}
+use Rattle.daybook.specs.Held.{held}
+use Rattle.daybook.specs.Records.{place}
+use Rattle.daybook.proofs.Acts.{refused}
 use Rattle.daybook.proofs.Keeping.{named_after, ids_after, every-after}
 use Rattle.daybook.proofs.book.DayBook.enter_place.Goals as goal
+
+pub returns-in_err-may_add : goal.returns-in_err-may_add
+returns-in_err-may_add c = refused (brings (place c.args.id.number)) (held c.args.self.now) _ c.from_residual.ensures.1 c.in_err-may_add.ensures
 
 pub invariant_of-self-clause-placed : goal.invariant_of-self-clause-placed
 invariant_of-self-clause-placed c =

@@ -4,9 +4,19 @@ use Rattle.figures.specs.Entries.{member_key, place_key, resource_key, ids_of_me
 use Rattle.figures.specs.Named.{all_members, all_placed}
 use Rattle.figures.specs.Owners.{among}
 use Rattle.daybook.specs.Numbers.{every, all_ids, has_whole_hours}
-use Rattle.daybook.proofs.Acts.{found_ok}
+use Rattle.daybook.specs.Calls.{brings}
+use Rattle.daybook.specs.Held.{held}
+use Rattle.daybook.specs.Records.{resource}
+use Rattle.daybook.proofs.Acts.{refused, found_ok}
 use Rattle.daybook.proofs.Keeping.{ids_after, every-after, among-found}
 use Rattle.daybook.proofs.book.DayBook.enter_resource.Goals as goal
+
+pub returns-in_err-may_add : goal.returns-in_err-may_add
+returns-in_err-may_add c =
+    let there = found_ok _ _ _ c.in_ok-member.ensures in
+    let lies = found_ok _ _ _ c.in_ok-place.ensures in
+    refused (brings (resource c.args.ids.own.number c.args.ids.member.number c.args.ids.place.number c.args.unit)) (held c.args.self.now) _ c.from_residual-in_err-may_add.ensures.1
+    (rw (there, lies) c.in_err-may_add.ensures)
 
 pub invariant_of-self-clause-owned : goal.invariant_of-self-clause-owned
 invariant_of-self-clause-owned c =
