@@ -44,7 +44,7 @@ module _ (f : ℕ → ℕ → ℕ) where
   pub both-done_left : (xs ys : List ℕ) (i : ℕ) → length xs ≤ i → both_from f xs ys i ≡ []
   both-done_left xs ys i h = ap (λ l. both f l (drop i ys)) (drop_all i xs h)
 
-  both-nil : (xs : List ℕ) → both f xs [] ≡ []
+  pub both-nil : (xs : List ℕ) → both f xs [] ≡ []
   both-nil [] = refl
   both-nil (x ∷ xs) = refl
 

@@ -66,8 +66,8 @@ module _ (rate total : ℕ) (rows : List MemberRow) where
   -- the shares as they are made: the rule below shares what is not borne, then the own amounts are added, read off the front
   -- of an array as a slice from 0
   module _ (zeros own : List ℕ) (own_is : own ≡ written (own_amounts rate total rows) zeros) where
-    pub own_front : take (length rows - 0) own ≡ own_amounts rate total rows
-    own_front = ap₂ take (omega arith) own_is ∙ written-front (own_amounts rate total rows) zeros (length rows) length_own
+    pub own_front : take (length rows) own ≡ own_amounts rate total rows
+    own_front = ap (take (length rows)) own_is ∙ written-front (own_amounts rate total rows) zeros (length rows) length_own
 
     module _ (below : ℕ → List MemberRow → List ℕ) (borne : ℕ) (borne-is : borne ≡ sum (own_amounts rate total rows)) (fair : Fair (total - borne) rows (below (total - borne) rows))
         (list shares : List ℕ) (shares-are : shares ≡ written (below (total - borne) rows) list) where
@@ -80,15 +80,15 @@ module _ (rate total : ℕ) (rows : List MemberRow) where
       own_each : length (own_amounts rate total rows) ≡ length (below rest rows)
       own_each = length_own ∙ sym rest_fair.as_many
 
-      added : both ◌+◌ (take (length rows - 0) own) shares ≡ capped rate below total rows
+      added : both ◌+◌ (take (length rows) own) shares ≡ capped rate below total rows
       added =
           ap₂ (both ◌+◌) own_front rest_shared
           ∙ both-back ◌+◌ (own_amounts rate total rows) (below rest rows) (drop (length (below rest rows)) list) own_each
 
-      pub added-whole : sum (both ◌+◌ (take (length rows - 0) own) shares) ≡ total
+      pub added-whole : sum (both ◌+◌ (take (length rows) own) shares) ≡ total
       added-whole = ap sum added ∙ (capped_fair below rest_fair).adds_up
 
-      pub added-written : written (both ◌+◌ (take (length rows - 0) own) shares) shares ≡ written (capped rate below total rows) list
+      pub added-written : written (both ◌+◌ (take (length rows) own) shares) shares ≡ written (capped rate below total rows) list
       added-written =
           ap₂ written added rest_shared
           ∙ written_again (capped rate below total rows) (below rest rows) list (length_both ◌+◌ (own_amounts rate total rows) (below rest rows) own_each ∙ own_each)

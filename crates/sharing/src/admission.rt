@@ -1,7 +1,7 @@
 ghost use Rattle.std.specs.Prelude.{◌≡◌, ◌≤◌, length, IfOk, Err};
 ghost use Rattle.sharing.specs.Admission.{admitted, no_demand, Due, Exactly, NobodyBears};
 
-use crate::rows::{MOST_ROWS, MemberRow, demands, deviations};
+use crate::rows::{MOST_ROWS, MemberRow};
 use crate::weights::weigh;
 use refusal::{Pot, Refusal};
 
@@ -22,11 +22,11 @@ fn judge(total: i64, rows: &[MemberRow], there: usize) -> Result<u64, Refusal>
     if needed > MOST_ROWS {
         return Err(Refusal::FieldOutOfRange { field: 2 });
     }
-    let demand = weigh(&demands(rows)[0..needed]);
+    let demand = weigh(rows, &|row| row.demand);
     if demand > MOST_ENERGY {
         return Err(Refusal::FieldOutOfRange { field: 3 });
     }
-    let deviation = weigh(&deviations(rows)[0..needed]);
+    let deviation = weigh(rows, &|row| row.deviation);
     if deviation > MOST_ENERGY {
         return Err(Refusal::FieldOutOfRange { field: 4 });
     }

@@ -8,7 +8,7 @@ ghost use Rattle.sharing.specs.ShareLaw.{Fair};
 ghost use Rattle.sharing.specs.Demanded.{by_demand-is, pro_rata_fair};
 
 use crate::admission::admit;
-use crate::rows::{MemberRow, demands};
+use crate::rows::MemberRow;
 use crate::rule::SharingRule;
 use crate::weights::pro_rata;
 use refusal::Refusal;
@@ -17,27 +17,16 @@ use refusal::Refusal;
 #[derive(Clone, Copy)]
 pub struct ByDemand;
 
-// Zeros, from the front of the list.
-fn zeros(n: usize, out: &mut [u64])
-    requires { n ≤ length out.old }
-    ensures { out.new ≡ written (replicate n 0) out.old }
-{
-    for i in 0..n {
-        out[i] = 0;
-    }
-}
-
 // A total of zero gives zeros, also where nobody has demand.
 fn by_demand(total: u64, rows: &[MemberRow], shares: &mut [u64])
     requires due { Due total rows.now }
     requires room { length rows.now ≤ length shares.old }
     ensures { shares.new ≡ written (by_demand total rows.now) shares.old }
 {
-    let members = rows.len();
     if total == 0 {
-        zeros(members, shares);
+        shares[..rows.len()].fill(0);
     } else {
-        pro_rata(total, &demands(rows)[0..members], shares);
+        pro_rata(total, rows, |row| row.demand, shares);
     }
 }
 

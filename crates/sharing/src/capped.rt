@@ -6,7 +6,7 @@ ghost use Rattle.sharing.specs.Admits.{due_less};
 ghost use Rattle.sharing.specs.Tiers.{rest, capped_fair};
 
 use crate::admission::admit;
-use crate::rows::{MOST_ROWS, MemberRow, deviations};
+use crate::rows::{MOST_ROWS, MemberRow};
 use crate::rule::{SharingRule, share_due};
 use crate::weights::pro_rata;
 use refusal::Refusal;
@@ -29,20 +29,14 @@ fn cap(rate: u32, deviation: u32) -> u64
     u64::from(deviation) * u64::from(rate.min(MOST_RATE)) / 1000
 }
 
-// Lowers each row's amount to its cap, and answers their sum.
-fn hold_to_caps(rate: u32, rows: &[MemberRow], amounts: &mut [u64]) -> u64
-    requires room { length rows.now ≤ length amounts.old }
-    requires fits { sum (both min amounts.old (caps rate rows.now)) ≤ most_total }
-    ensures reply { result ≡ sum (both min amounts.old (caps rate rows.now)) }
-    ensures after { amounts.new ≡ written (both min amounts.old (caps rate rows.now)) amounts.old }
+// Lowers each row's amount to its cap.
+fn hold_to_caps(rate: u32, rows: &[MemberRow], amounts: &mut [u64])
+    requires { length rows.now ≤ length amounts.old }
+    ensures { amounts.new ≡ written (both min amounts.old (caps rate rows.now)) amounts.old }
 {
-    let mut borne = 0;
-    for i in 0..rows.len() {
-        let amount = amounts[i].min(cap(rate, rows[i].deviation));
-        amounts[i] = amount;
-        borne += amount;
+    for (i, row) in rows.iter().enumerate() {
+        amounts[i] = amounts[i].min(cap(rate, row.deviation));
     }
-    borne
 }
 
 // Each member's own amount, and their sum.
@@ -52,8 +46,9 @@ fn bear(rate: u32, total: u64, rows: &[MemberRow], own: &mut [u64]) -> u64
     ensures reply { result ≡ sum (own_amounts rate total rows.now) }
     ensures after { own.new ≡ written (own_amounts rate total rows.now) own.old }
 {
-    pro_rata(total, &deviations(rows)[0..rows.len()], own);
-    hold_to_caps(rate, rows, own)
+    pro_rata(total, rows, |row| row.deviation, own);
+    hold_to_caps(rate, rows, own);
+    own[..rows.len()].iter().sum()
 }
 
 fn add_each(own: &[u64], shares: &mut [u64])
@@ -61,8 +56,8 @@ fn add_each(own: &[u64], shares: &mut [u64])
     requires fits { sum (both ◌+◌ own.now shares.old) ≤ most_total }
     ensures { shares.new ≡ written (both ◌+◌ own.now shares.old) shares.old }
 {
-    for i in 0..own.len() {
-        shares[i] += own[i];
+    for (i, amount) in own.iter().enumerate() {
+        shares[i] += *amount;
     }
 }
 
@@ -81,7 +76,7 @@ fn share_in_tier<R: SharingRule>(
     let mut own = [0; MOST_ROWS];
     let borne = bear(rate, total, rows, &mut own);
     share_due(below, total - borne, rows, shares);
-    add_each(&own[0..rows.len()], shares);
+    add_each(&own[..rows.len()], shares);
 }
 
 impl<R> Capped<R> {

@@ -1,17 +1,19 @@
-ghost use Rattle.std.specs.Prelude.{◌≡◌, ◌+◌, ◌≤◌, length, sum};
+ghost use Rattle.std.specs.Prelude.{◌≡◌, ℕ, ◌+◌, ◌≤◌, length, map, sum};
+ghost use Rattle.sharing.specs.declared.rows.MemberRow.{MemberRow};
 ghost use Rattle.sharing.specs.Admission.{most_total, most_rows, most_energy, written};
 ghost use Rattle.sharing.specs.ProRata.{quotient, part, pro_rata, UpTo};
 
+use crate::rows::MemberRow;
+
 // The weight of all, of any size: so few numbers of 32 bits cannot pass 64.
-pub(crate) fn weigh(weights: &[u32]) -> u64
-    requires { length weights.now ≤ most_rows }
-    ensures { result ≡ sum weights.now }
+pub(crate) fn weigh<W: Fn(&MemberRow) -> u32>(rows: &[MemberRow], weight: &W) -> u64
+    ghost w: { MemberRow → ℕ }
+    requires callable { W.IsAlwaysCallable weight.now }
+    requires weighs { (row : _) (n : _) → W.post weight.now row n → n ≡ w row.now }
+    requires few { length rows.now ≤ most_rows }
+    ensures { result ≡ sum (map w rows.now) }
 {
-    let mut whole = 0;
-    for weight in weights {
-        whole += u64::from(*weight);
-    }
-    whole
+    rows.iter().map(|row| u64::from(weight(row))).sum()
 }
 
 // What members of weight `upto` bear together of the total; nothing where nobody has weight.
@@ -20,7 +22,7 @@ fn quotient(total: u64, whole: u64, upto: u64) -> u64
     requires light { upto ≤ most_energy }
     ensures { result ≡ quotient total whole upto }
 {
-    if whole == 0 { 0 } else { total * upto / whole }
+    (total * upto).checked_div(whole).unwrap_or(0)
 }
 
 // One member's share. No share is rounded by itself, so the fractions are not lost: they move on to the next member.
@@ -32,19 +34,27 @@ fn part(total: u64, whole: u64, before: u64, weight: u64) -> u64
     quotient(total, whole, before + weight) - quotient(total, whole, before)
 }
 
-// One share for each weight, from the front of the list.
-pub(crate) fn pro_rata(total: u64, weights: &[u32], out: &mut [u64])
+// One share for each row, from the front of the list.
+pub(crate) fn pro_rata<W: Fn(&MemberRow) -> u32>(
+    total: u64,
+    rows: &[MemberRow],
+    weight: W,
+    out: &mut [u64],
+)
+    ghost w: { MemberRow → ℕ }
+    requires callable { W.IsAlwaysCallable weight }
+    requires weighs { (row : _) (n : _) → W.post weight row n → n ≡ w row.now }
     requires low { total ≤ most_total }
-    requires few { length weights.now ≤ most_rows }
-    requires light { sum weights.now ≤ most_energy }
-    requires room { length weights.now ≤ length out.old }
-    ensures after { out.new ≡ written (pro_rata total weights.now) out.old }
-    ensures law { UpTo total weights.now out.new }
+    requires few { length rows.now ≤ most_rows }
+    requires light { sum (map w rows.now) ≤ most_energy }
+    requires room { length rows.now ≤ length out.old }
+    ensures after { out.new ≡ written (pro_rata total (map w rows.now)) out.old }
+    ensures law { UpTo total (map w rows.now) out.new }
 {
-    let whole = weigh(weights);
+    let whole = weigh(rows, &weight);
     let mut before = 0;
-    for i in 0..weights.len() {
-        let weight = u64::from(weights[i]);
+    for (i, row) in rows.iter().enumerate() {
+        let weight = u64::from(weight(row));
         out[i] = part(total, whole, before, weight);
         before += weight;
     }

@@ -1,25 +1,23 @@
-use Rattle.std.proofs.Common.{◌≡◌, sum, ap, ◌∙◌, arith, rules}
-use Rattle.sharing.specs.Rows.{deviations}
-use Rattle.sharing.specs.Admission.{written}
-use Rattle.sharing.specs.ProRata.{pro_rata}
-use Rattle.sharing.specs.Tiers.{held_own, held-written, own_within}
+use Rattle.std.proofs.Common.{◌≡◌, ◌<◌, ◌^◌, sum, ap, ◌∙◌, arith, rules}
+use Rattle.std.proofs.iter.runs.Made.{chains}
+use Rattle.sharing.specs.Tiers.{held-written, own_within, own_front}
 use Rattle.sharing.proofs.capped.bear.Goals as goal
 
-pub hold_to_caps-requires : goal.hold_to_caps-requires
-hold_to_caps-requires c =
+pub sum-requires-clause-fits : goal.sum-requires-clause-fits
+sum-requires-clause-fits c =
     let rows = c.args.rows.now in
-    let shared : c.pro_rata.new.out ≡ written (pro_rata c.args.total (deviations rows)) c.args.own.now = search rules in
-    let own = ap sum (held_own c.args.rate c.args.total rows c.args.own.now c.pro_rata.new.out shared) in
-    record {
-      room = search rules;
-      fits = omega (arith, own, own_within c.args.rate c.args.total rows, c.requires.due.total_in_range);
-    }
+    let own = c.hold_to_caps.ensures ∙ held-written c.args.rate c.args.total rows c.args.own.now _ c.pro_rata.ensures.after in
+    let front = c.iter.ensures.rest ∙ own_front c.args.rate c.args.total rows _ _ own in
+    let fits : sum c.iter.result.rest.now < 2 ^ 64 = omega (arith, ap sum front, own_within c.args.rate c.args.total rows, c.requires.due.total_in_range) in
+    search (rules, chains)
 
-pub returns : goal.returns
-returns c =
+pub returns-clause-reply : goal.returns-clause-reply
+returns-clause-reply c =
     let rows = c.args.rows.now in
-    let shared : c.pro_rata.new.out ≡ written (pro_rata c.args.total (deviations rows)) c.args.own.now = search rules in
-    record {
-      reply = c.hold_to_caps.ensures.reply ∙ ap sum (held_own c.args.rate c.args.total rows c.args.own.now c.pro_rata.new.out shared);
-      after = c.hold_to_caps.ensures.after ∙ held-written c.args.rate c.args.total rows c.args.own.now c.pro_rata.new.out shared;
-    }
+    let own = c.hold_to_caps.ensures ∙ held-written c.args.rate c.args.total rows c.args.own.now _ c.pro_rata.ensures.after in
+    let front = c.iter.ensures.rest ∙ own_front c.args.rate c.args.total rows _ _ own in
+    let summed : c.sum.result ≡ sum c.iter.result.rest.now = search (rules, chains) in
+    summed ∙ ap sum front
+
+pub returns-clause-after : goal.returns-clause-after
+returns-clause-after c = c.hold_to_caps.ensures ∙ held-written c.args.rate c.args.total c.args.rows.now c.args.own.now _ c.pro_rata.ensures.after

@@ -1,9 +1,12 @@
-use Rattle.std.proofs.Common.{◌≡◌, ◌+◌, drop, sum}
+use Rattle.std.proofs.Common.{◌≡◌, ◌+◌, map, drop, sum}
 use Rattle.sharing.specs.ProRata.{pro_rata_from, pro_rata}
 use Rattle.sharing.specs.Filling.{Filling}
 use Rattle.sharing.proofs.weights.pro_rata.Given as goal
 
+abbrev pub ghost-weigh : goal.ghost-weigh
+ghost-weigh g a = g.w
+
 abbrev pub invariant-loop-i : goal.invariant-loop-i
-invariant-loop-i l =
-    (l.before + sum (drop l.i l.weights) ≡ sum l.weights)
-    × Filling (pro_rata l.total l.weights) l.initial.out l.out l.i (pro_rata_from l.total l.whole l.before (drop l.i l.weights))
+invariant-loop-i g l =
+    (l.before + sum (map g.w (drop l.i l.rows)) ≡ sum (map g.w l.rows))
+    × Filling (pro_rata l.total (map g.w l.rows)) l.initial.out l.out l.i (pro_rata_from l.total l.whole l.before (map g.w (drop l.i l.rows)))

@@ -1,0 +1,7 @@
+use Rattle.sharing.proofs.admission.judge.Given as goal
+
+abbrev pub ghost-weigh : goal.ghost-weigh
+ghost-weigh a = λ r. r.demand
+
+abbrev pub ghost-weigh-2 : goal.ghost-weigh-2
+ghost-weigh-2 a = λ r. r.deviation
