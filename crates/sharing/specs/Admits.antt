@@ -72,9 +72,9 @@ nobody_refused (pos t) rows there n =
 nobody_refused (negsuc t) rows there n = absurd (omega (arith, ints, n.above_zero))
 
 module _ (total : ℤ) (rows : List MemberRow) (there : ℕ) where
-  pub due-made : (r : Result ℕ Refusal) → r ≡ admitted total rows there → IfOk r (λ t. Due t rows × (length rows ≤ there))
-  due-made (Ok t) e = let a = admitted_ok total rows there t (sym e) in (a.1, a.2)
-  due-made (Err refusal) e = tt
+  pub due_made : (r : Result ℕ Refusal) → r ≡ admitted total rows there → IfOk r (λ t. Due t rows × (length rows ≤ there))
+  due_made (Ok t) e = let a = admitted_ok total rows there t (sym e) in (a.1, a.2)
+  due_made (Err refusal) e = tt
 
   pub nobody_exactly : (r : Result ℕ Refusal) → r ≡ admitted total rows there → Exactly (r ≡ Err no_demand) (NobodyBears total rows there)
   nobody_exactly r e = (λ n. refused_nobody total rows there (sym e ∙ n), λ n. e ∙ nobody_refused total rows there n)

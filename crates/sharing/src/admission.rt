@@ -11,11 +11,15 @@ const MOST_TOTAL: i64 = 50_000_000_000;
 // kWh, over all rows
 const MOST_ENERGY: u64 = 153_600_000;
 
-// The total, or the first refusal that is due.
-fn judge(total: i64, rows: &[MemberRow], there: usize) -> Result<u64, Refusal>
-    ensures { result ≡ admitted total rows.now there }
+// The test that every rule begins with: the total to be shared, or why there is none. `there` is how many entries the
+// share list has.
+#[tactic(auto, using(crate::specs::Admits::due_made, crate::specs::Admits::nobody_exactly))]
+pub fn admit(total: i64, rows: &[MemberRow], there: usize) -> Result<u64, Refusal>
+    ensures reply { result ≡ admitted total rows.now there }
+    ensures due { IfOk result (λ t. Due t rows.now × (length rows.now ≤ there)) }
+    ensures nobody { Exactly (result ≡ Err no_demand) (NobodyBears total rows.now there) }
 {
-    if total < 0 || total > MOST_TOTAL {
+    if !(0..=MOST_TOTAL).contains(&total) {
         return Err(Refusal::FieldOutOfRange { field: 1 });
     }
     let needed = rows.len();
@@ -36,15 +40,5 @@ fn judge(total: i64, rows: &[MemberRow], there: usize) -> Result<u64, Refusal>
     if total > 0 && demand == 0 {
         return Err(Refusal::NoDemand { pot: Pot::Unnamed });
     }
-    Ok(total as u64)
-}
-
-// The test that every rule begins with: the total to be shared, or why there is none. `there` is how many entries the
-// share list has.
-pub fn admit(total: i64, rows: &[MemberRow], there: usize) -> Result<u64, Refusal>
-    ensures reply { result ≡ admitted total rows.now there }
-    ensures due { IfOk result (λ t. Due t rows.now × (length rows.now ≤ there)) }
-    ensures nobody { Exactly (result ≡ Err no_demand) (NobodyBears total rows.now there) }
-{
-    judge(total, rows, there)
+    Ok(total.unsigned_abs())
 }

@@ -1,4 +1,4 @@
-use Rattle.sharing.proofs.admission.judge.Given as goal
+use Rattle.sharing.proofs.admission.admit.Given as goal
 
 abbrev pub ghost-weigh : goal.ghost-weigh
 ghost-weigh a = λ r. r.demand
