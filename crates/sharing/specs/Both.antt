@@ -1,14 +1,8 @@
--- Two lists, place by place.
---
---   both_from   what a loop over both has still before it at i
-use Rattle.std.specs.Prelude.{◌≡◌, ℕ, zero, suc, ◌+◌, ◌<◌, ◌≤◌, min, List, [], ◌∷◌, ◌++◌, length, drop, sum, slice_index, refl}
-use Rattle.std.proofs.Common.{sym, ap, ap₂, ◌∙◌, arith}
-use Rattle.std.proofs.lemmas.List.{drop_more, drop_all}
+-- Two lists, place by place: their lengths, places and sums.
+use Rattle.std.specs.Prelude.{◌≡◌, ℕ, zero, suc, ◌+◌, ◌≤◌, min, List, [], ◌∷◌, length, sum, slice_index, refl}
+use Rattle.std.proofs.Common.{sym, ap, arith}
 use Rattle.sharing.specs.Rules.{both}
 use Rattle.sharing.specs.Quotients.{sum-cons}
-
-abbrev pub both_from : (ℕ → ℕ → ℕ) → List ℕ → List ℕ → ℕ → List ℕ
-both_from f xs ys i = both f (drop i xs) (drop i ys)
 
 module _ (f : ℕ → ℕ → ℕ) where
   pub length_both : (xs ys : List ℕ) → length xs ≡ length ys → length (both f xs ys) ≡ length xs
@@ -22,34 +16,6 @@ module _ (f : ℕ → ℕ → ℕ) where
   get_or-both (x ∷ xs) [] e z k = absurd (omega arith)
   get_or-both (x ∷ xs) (y ∷ ys) e z zero = refl
   get_or-both (x ∷ xs) (y ∷ ys) e z (suc k) = get_or-both xs ys (omega arith) z k
-
-  -- what goes beyond the shorter does not count
-  pub both-front : (xs ys rest : List ℕ) → length xs ≡ length ys → both f (xs ++ rest) ys ≡ both f xs ys
-  both-front [] [] [] e = refl
-  both-front [] [] (r ∷ rest) e = refl
-  both-front [] (y ∷ ys) rest e = absurd (omega arith)
-  both-front (x ∷ xs) [] rest e = absurd (omega arith)
-  both-front (x ∷ xs) (y ∷ ys) rest e = ap (λ l. f x y ∷ l) (both-front xs ys rest (omega arith))
-
-  pub both-back : (xs ys rest : List ℕ) → length xs ≡ length ys → both f xs (ys ++ rest) ≡ both f xs ys
-  both-back [] ys rest e = refl
-  both-back (x ∷ xs) [] rest e = absurd (omega arith)
-  both-back (x ∷ xs) (y ∷ ys) rest e = ap (λ l. f x y ∷ l) (both-back xs ys rest (omega arith))
-
-  -- what a loop over both comes to next
-  pub both-more : (xs ys : List ℕ) (i v : ℕ) → i < length xs → i < length ys → v ≡ f (slice_index xs i) (slice_index ys i) → both_from f xs ys i ≡ v ∷ both_from f xs ys (i + 1)
-  both-more xs ys i v h k e =
-      ap₂ (both f) (drop_more xs i 0 h) (drop_more ys i 0 k) ∙ ap (λ n. n ∷ both_from f xs ys (i + 1)) (sym e)
-
-  pub both-done_left : (xs ys : List ℕ) (i : ℕ) → length xs ≤ i → both_from f xs ys i ≡ []
-  both-done_left xs ys i h = ap (λ l. both f l (drop i ys)) (drop_all i xs h)
-
-  pub both-nil : (xs : List ℕ) → both f xs [] ≡ []
-  both-nil [] = refl
-  both-nil (x ∷ xs) = refl
-
-  pub both-done_right : (xs ys : List ℕ) (i : ℕ) → length ys ≤ i → both_from f xs ys i ≡ []
-  both-done_right xs ys i h = ap (both f (drop i xs)) (drop_all i ys h) ∙ both-nil (drop i xs)
 
 pub sum_both : (xs ys : List ℕ) → length xs ≡ length ys → sum (both ◌+◌ xs ys) ≡ sum xs + sum ys
 sum_both [] [] e = refl

@@ -1,5 +1,5 @@
 -- Sharing by demand keeps the share law.
-use Rattle.std.specs.Prelude.{◌≡◌, ℕ, zero, suc, ◌+◌, List, [], ◌∷◌, length, replicate, sum, ◌==◌, refl}
+use Rattle.std.specs.Prelude.{◌≡◌, ℕ, zero, suc, ◌+◌, List, [], ◌∷◌, ◌++◌, length, replicate, sum, ◌==◌, refl}
 use Rattle.std.proofs.Common.{sym, ap, ap₂, ◌∙◌, zero-mul, arith}
 use Rattle.std.proofs.Math.Nat.{zero-div}
 use Rattle.std.proofs.lemmas.List.{length-map}
@@ -7,11 +7,11 @@ use Rattle.std.proofs.lemmas.Int.{ints}
 use Rattle.std.proofs.lemmas.Bool.{cond_both, eqb-true}
 use Rattle.sharing.specs.declared.rows.MemberRow.{MemberRow}
 use Rattle.sharing.specs.Rows.{demands}
-use Rattle.sharing.specs.Admission.{written, Due}
+use Rattle.sharing.specs.Admission.{Due}
 use Rattle.sharing.specs.ShareLaw.{Fair}
 use Rattle.sharing.specs.ProRata.{part, pro_rata_from, pro_rata, UpTo}
 use Rattle.sharing.specs.Rules.{by_demand}
-use Rattle.sharing.specs.Quotients.{length-pro_rata, written_up_to, pro_rata_adds_up, pro_rata-within, pro_rata-idle}
+use Rattle.sharing.specs.Quotients.{length-pro_rata, front_up_to, pro_rata_adds_up, pro_rata-within, pro_rata-idle}
 
 zero-part : (whole before weight : ℕ) → part 0 whole before weight ≡ 0
 zero-part whole before weight = simp (zero-mul, zero-div)
@@ -29,8 +29,8 @@ by_demand-is total rows =
     (λ e. ap (λ k. replicate k 0) n ∙ sym (zero-from (sum weights) 0 weights) ∙ ap (λ t. pro_rata t weights) (sym (eqb-true total 0 e)))
     (λ _. refl)
 
-pub by_demand_up_to : (total : ℕ) (rows : List MemberRow) (list : List ℕ) → UpTo total (demands rows) (written (by_demand total rows) list)
-by_demand_up_to total rows list = rw (by_demand-is total rows) (written_up_to total (demands rows) list)
+pub by_demand_up_to : (total : ℕ) (rows : List MemberRow) (rest : List ℕ) → UpTo total (demands rows) (by_demand total rows ++ rest)
+by_demand_up_to total rows rest = rw (by_demand-is total rows) (front_up_to total (demands rows) rest)
 
 pub pro_rata_fair : (total : ℕ) (rows : List MemberRow) → Due total rows → Fair total rows (pro_rata total (demands rows))
 pro_rata_fair total rows due = record {

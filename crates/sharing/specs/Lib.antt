@@ -6,8 +6,5 @@ pub mod Rules
 pub mod WorkedShares
 pub mod Demanded
 pub mod Quotients
-pub mod Admits
 pub mod Tiers
-pub mod Columns
-pub mod Filling
 pub mod Both

@@ -1,11 +1,10 @@
 -- The laws of pro rata sharing, over any weights.
-use Rattle.std.specs.Prelude.{◌≡◌, ℕ, zero, suc, ◌+◌, ◌-◌, ◌*◌, ◌/◌, ◌<◌, ◌≤◌, List, [], ◌∷◌, length, take, drop, sum, slice_index, refl}
+use Rattle.std.specs.Prelude.{◌≡◌, ℕ, zero, suc, ◌+◌, ◌-◌, ◌*◌, ◌/◌, ◌<◌, ◌≤◌, List, [], ◌∷◌, ◌++◌, length, take, sum, slice_index, refl}
 use Rattle.std.proofs.Common.{sym, ap, ◌∙◌, add-zero, zero-add, mul-zero, mul_comm, mul-le-mul_left, mul-div_cancel, div-mul-le_self, le_trans, le_of_eq, arith}
 use Rattle.std.proofs.Math.Nat.{zero-div, div-zero, div-le_of_le-mul}
 use Rattle.std.proofs.lemmas.Nat.{le-div}
 use Rattle.std.proofs.lemmas.List.{take_all, take-append-le}
 use Rattle.std.proofs.lemmas.List.Sums.{sum_by-cons}
-use Rattle.sharing.specs.Admission.{written}
 use Rattle.sharing.specs.ProRata.{quotient, pro_rata_from, pro_rata, UpTo}
 
 pub sum-cons : (x : ℕ) (xs : List ℕ) → sum (x ∷ xs) ≡ x + sum xs
@@ -47,10 +46,10 @@ module _ (total : ℕ) (weights : List ℕ) where
   pub pro_rata_up_to : UpTo total weights (pro_rata total weights)
   pro_rata_up_to k h = simp (mul-zero, zero-div, zero-add, add-zero) at (sum-from total (sum weights) k 0 weights)
 
-  pub written_up_to : (list : List ℕ) → UpTo total weights (written (pro_rata total weights) list)
-  written_up_to list k h =
+  pub front_up_to : (rest : List ℕ) → UpTo total weights (pro_rata total weights ++ rest)
+  front_up_to rest k h =
       let n = length-pro_rata in
-      ap sum (take-append-le k (pro_rata total weights) (drop (length (pro_rata total weights)) list) (omega arith)) ∙ pro_rata_up_to k h
+      ap sum (take-append-le k (pro_rata total weights) rest (omega arith)) ∙ pro_rata_up_to k h
 
   -- all of them together
   sum-pro_rata : sum (pro_rata total weights) ≡ total * sum weights / sum weights

@@ -1,7 +1,7 @@
 ghost use Rattle.std.specs.Prelude.{◌≡◌, ◌≤◌, length, replicate, OnOk, unsigned_abs};
 ghost use Rattle.std.proofs.Common.{sym, subst};
 ghost use Rattle.sharing.specs.Rows.{demands};
-ghost use Rattle.sharing.specs.Admission.{admitted, answered, written, filled, Due};
+ghost use Rattle.sharing.specs.Admission.{admitted, answered, filled, Due};
 ghost use Rattle.sharing.specs.ProRata.{UpTo};
 ghost use Rattle.sharing.specs.Rules.{by_demand};
 ghost use Rattle.sharing.specs.ShareLaw.{Fair};
@@ -20,11 +20,11 @@ pub struct ByDemand;
 // A total of zero gives zeros, also where nobody has demand.
 fn by_demand(total: u64, rows: &[MemberRow], shares: &mut [u64])
     requires due { Due total rows.now }
-    requires room { length rows.now ≤ length shares.old }
-    ensures { shares.new ≡ written (by_demand total rows.now) shares.old }
+    requires room { length shares.old ≡ length rows.now }
+    ensures { shares.new ≡ by_demand total rows.now }
 {
     if total == 0 {
-        shares[..rows.len()].fill(0);
+        shares.fill(0);
     } else {
         pro_rata(total, rows, |row| row.demand, shares);
     }
@@ -42,7 +42,7 @@ impl SharingRule for ByDemand {
         ensures law { OnOk result (UpTo (unsigned_abs total) (demands rows.now) shares.new) }
     {
         let total = admit(total, rows, shares.len())?;
-        by_demand(total, rows, shares);
+        by_demand(total, rows, &mut shares[..rows.len()]);
         Ok(())
     }
 }

@@ -1,8 +1,8 @@
 ghost use Rattle.std.specs.Prelude.{◌≡◌, ◌+◌, ◌≤◌, min, length, sum};
-ghost use Rattle.sharing.specs.Admission.{most_total, admitted, answered, written, filled, Due};
+ghost use Rattle.sharing.specs.Admission.{most_total, admitted, answered, filled, Due};
 ghost use Rattle.sharing.specs.Rules.{both, cap, caps, own_amounts, capped};
 ghost use Rattle.std.proofs.Common.{arith};
-ghost use Rattle.sharing.specs.Admits.{due_less};
+ghost use Rattle.sharing.specs.Tiers.{due_less};
 ghost use Rattle.sharing.specs.Tiers.{rest, capped_fair};
 
 use crate::admission::admit;
@@ -31,8 +31,8 @@ fn cap(rate: u32, deviation: u32) -> u64
 
 // Lowers each row's amount to its cap.
 fn hold_to_caps(rate: u32, rows: &[MemberRow], amounts: &mut [u64])
-    requires { length rows.now ≤ length amounts.old }
-    ensures { amounts.new ≡ written (both min amounts.old (caps rate rows.now)) amounts.old }
+    requires { length amounts.old ≡ length rows.now }
+    ensures { amounts.new ≡ both min amounts.old (caps rate rows.now) }
 {
     for (i, row) in rows.iter().enumerate() {
         amounts[i] = amounts[i].min(cap(rate, row.deviation));
@@ -42,19 +42,19 @@ fn hold_to_caps(rate: u32, rows: &[MemberRow], amounts: &mut [u64])
 // Each member's own amount, and their sum.
 fn bear(rate: u32, total: u64, rows: &[MemberRow], own: &mut [u64]) -> u64
     requires due { Due total rows.now }
-    requires room { length rows.now ≤ length own.old }
+    requires room { length own.old ≡ length rows.now }
     ensures reply { result ≡ sum (own_amounts rate total rows.now) }
-    ensures after { own.new ≡ written (own_amounts rate total rows.now) own.old }
+    ensures after { own.new ≡ own_amounts rate total rows.now }
 {
     pro_rata(total, rows, |row| row.deviation, own);
     hold_to_caps(rate, rows, own);
-    own[..rows.len()].iter().sum()
+    own.iter().sum()
 }
 
 fn add_each(own: &[u64], shares: &mut [u64])
-    requires room { length own.now ≤ length shares.old }
+    requires room { length shares.old ≡ length own.now }
     requires fits { sum (both ◌+◌ own.now shares.old) ≤ most_total }
-    ensures { shares.new ≡ written (both ◌+◌ own.now shares.old) shares.old }
+    ensures { shares.new ≡ both ◌+◌ own.now shares.old }
 {
     for (i, amount) in own.iter().enumerate() {
         shares[i] += *amount;
@@ -70,13 +70,14 @@ fn share_in_tier<R: SharingRule>(
     shares: &mut [u64],
 )
     requires due { Due total rows.now }
-    requires room { length rows.now ≤ length shares.old }
-    ensures { shares.new ≡ written (capped rate (R.SharingRule.meaning below.now) total rows.now) shares.old }
+    requires room { length shares.old ≡ length rows.now }
+    ensures { shares.new ≡ capped rate (R.SharingRule.meaning below.now) total rows.now }
 {
     let mut own = [0; MOST_ROWS];
-    let borne = bear(rate, total, rows, &mut own);
+    let own = &mut own[..rows.len()];
+    let borne = bear(rate, total, rows, own);
     share_due(below, total - borne, rows, shares);
-    add_each(&own[..rows.len()], shares);
+    add_each(own, shares);
 }
 
 impl<R> Capped<R> {
@@ -91,7 +92,7 @@ impl<R> Capped<R> {
         ensures after { own.new ≡ filled (admitted total rows.now (length own.old)) (λ t. own_amounts self.now.rate t rows.now) own.old }
     {
         let total = admit(total, rows, own.len())?;
-        Ok(bear(self.rate, total, rows, own))
+        Ok(bear(self.rate, total, rows, &mut own[..rows.len()]))
     }
 }
 
@@ -104,7 +105,13 @@ impl<R: SharingRule> SharingRule for Capped<R> {
 
     fn share(&self, total: i64, rows: &[MemberRow], shares: &mut [u64]) -> Result<(), Refusal> {
         let total = admit(total, rows, shares.len())?;
-        share_in_tier(self.rate, &self.below, total, rows, shares);
+        share_in_tier(
+            self.rate,
+            &self.below,
+            total,
+            rows,
+            &mut shares[..rows.len()],
+        );
         Ok(())
     }
 }

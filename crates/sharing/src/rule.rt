@@ -1,6 +1,6 @@
 ghost use Rattle.std.specs.Prelude.{◌≡◌, ℕ, ◌≤◌, List, length, take, Err, OnOk, unsigned_abs};
 ghost use Rattle.sharing.specs.declared.rows.MemberRow.{MemberRow};
-ghost use Rattle.sharing.specs.Admission.{admitted, answered, written, filled, no_demand, Due, Exactly, NobodyBears};
+ghost use Rattle.sharing.specs.Admission.{admitted, answered, filled, no_demand, Due, Exactly, NobodyBears};
 ghost use Rattle.sharing.specs.ShareLaw.{Fair};
 
 use crate::rows::MemberRow;
@@ -43,8 +43,8 @@ pub(crate) fn share_due<R: SharingRule>(
     shares: &mut [u64],
 )
     requires due { Due total rows.now }
-    requires room { length rows.now ≤ length shares.old }
-    ensures after { shares.new ≡ written (R.SharingRule.meaning rule.now total rows.now) shares.old }
+    requires room { length shares.old ≡ length rows.now }
+    ensures after { shares.new ≡ R.SharingRule.meaning rule.now total rows.now }
     ensures law { Fair total rows.now (R.SharingRule.meaning rule.now total rows.now) }
 {
     let _ = rule.share(total as i64, rows, shares);

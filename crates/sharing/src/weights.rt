@@ -1,6 +1,6 @@
 ghost use Rattle.std.specs.Prelude.{◌≡◌, ℕ, ◌+◌, ◌≤◌, length, map, sum};
 ghost use Rattle.sharing.specs.declared.rows.MemberRow.{MemberRow};
-ghost use Rattle.sharing.specs.Admission.{most_total, most_rows, most_energy, written};
+ghost use Rattle.sharing.specs.Admission.{most_total, most_rows, most_energy};
 ghost use Rattle.sharing.specs.ProRata.{quotient, part, pro_rata, UpTo};
 
 use crate::rows::MemberRow;
@@ -34,12 +34,12 @@ fn part(total: u64, whole: u64, before: u64, weight: u64) -> u64
     quotient(total, whole, before + weight) - quotient(total, whole, before)
 }
 
-// One share for each row, from the front of the list.
+// One share for each row, by the weight that `weight` reads off it.
 pub(crate) fn pro_rata<W: Fn(&MemberRow) -> u32>(
     total: u64,
     rows: &[MemberRow],
     weight: W,
-    out: &mut [u64],
+    shares: &mut [u64],
 )
     ghost w: { MemberRow → ℕ }
     requires callable { W.IsAlwaysCallable weight }
@@ -47,15 +47,15 @@ pub(crate) fn pro_rata<W: Fn(&MemberRow) -> u32>(
     requires low { total ≤ most_total }
     requires few { length rows.now ≤ most_rows }
     requires light { sum (map w rows.now) ≤ most_energy }
-    requires room { length rows.now ≤ length out.old }
-    ensures after { out.new ≡ written (pro_rata total (map w rows.now)) out.old }
-    ensures law { UpTo total (map w rows.now) out.new }
+    requires room { length shares.old ≡ length rows.now }
+    ensures after { shares.new ≡ pro_rata total (map w rows.now) }
+    ensures law { UpTo total (map w rows.now) shares.new }
 {
     let whole = weigh(rows, &weight);
     let mut before = 0;
     for (i, row) in rows.iter().enumerate() {
         let weight = u64::from(weight(row));
-        out[i] = part(total, whole, before, weight);
+        shares[i] = part(total, whole, before, weight);
         before += weight;
     }
 }

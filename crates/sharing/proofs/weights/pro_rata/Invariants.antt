@@ -1,6 +1,5 @@
-use Rattle.std.proofs.Common.{◌≡◌, ◌+◌, map, drop, sum}
+use Rattle.std.proofs.Common.{◌≡◌, ◌+◌, ◌++◌, map, take, drop, sum}
 use Rattle.sharing.specs.ProRata.{pro_rata_from, pro_rata}
-use Rattle.sharing.specs.Filling.{Filling}
 use Rattle.sharing.proofs.weights.pro_rata.Given as goal
 
 abbrev pub ghost-weigh : goal.ghost-weigh
@@ -9,4 +8,4 @@ ghost-weigh g a = g.w
 abbrev pub invariant-loop-i : goal.invariant-loop-i
 invariant-loop-i g l =
     (l.before + sum (map g.w (drop l.i l.rows)) ≡ sum (map g.w l.rows))
-    × Filling (pro_rata l.total (map g.w l.rows)) l.initial.out l.out l.i (pro_rata_from l.total l.whole l.before (map g.w (drop l.i l.rows)))
+    × (take l.i l.shares ++ pro_rata_from l.total l.whole l.before (map g.w (drop l.i l.rows)) ≡ pro_rata l.total (map g.w l.rows))

@@ -1,6 +1,5 @@
 -- What it tells that a call is admitted or refused.
-use Rattle.std.specs.Prelude.{◌≡◌, ℕ, ◌<◌, ◌≤◌, List, [], ◌∷◌, length, ℤ, pos, negsuc, IfOk, Ok, Err, sum, Result, refl}
-use Rattle.std.proofs.Common.{sym, ap, ◌∙◌, arith}
+use Rattle.std.proofs.Common.{◌≡◌, ℕ, ◌<◌, ◌≤◌, List, [], ◌∷◌, length, ℤ, pos, negsuc, IfOk, Ok, Err, sum, Result, refl, sym, ap, ◌∙◌, arith}
 use Rattle.std.specs.List.{AllByRecursion}
 use Rattle.std.proofs.lemmas.Int.{ints}
 use Rattle.std.proofs.lemmas.Bool.Decides.{nat_tests}
@@ -34,20 +33,6 @@ admitted_ok (pos t) rows there n e = (
   grind (arith, nat_tests),
 )
 admitted_ok (negsuc t) rows there n e = let z : ◌≡◌ {A = ℕ} 0 1 = cc in absurd (omega arith)
-
-pub due_less : (t s : ℕ) (rows : List MemberRow) → s ≤ t → Due t rows → Due s rows
-due_less t s rows h due = record {
-  total_in_range = omega (arith, due.total_in_range);
-  few_rows = due.few_rows;
-  demand_in_range = due.demand_in_range;
-  deviation_in_range = due.deviation_in_range;
-  somebody_bears = λ above. due.somebody_bears (omega (arith, above));
-}
-
-pub due-admitted : (total : ℤ) (t : ℕ) (rows : List MemberRow) (there : ℕ) → total ≡ pos t → Due t rows → length rows ≤ there → admitted total rows there ≡ Ok t
-due-admitted total t rows there e due h =
-    let ok : admitted (pos t) rows there ≡ Ok t = grind (arith, nat_tests) in
-    ap (λ z. admitted z rows there) e ∙ ok
 
 refused_nobody : (total : ℤ) (rows : List MemberRow) (there : ℕ) → admitted total rows there ≡ Err no_demand → NobodyBears total rows there
 refused_nobody (pos t) rows there e =
