@@ -1,5 +1,5 @@
 ghost use Rattle.std.specs.Prelude.{◌≡◌, ◌/◌, ◌%◌, ◌≤◌, length};
-ghost use Rattle.sharing.specs.Admission.{most_total, written, Due};
+ghost use Rattle.sharing.specs.Admission.{most_total, Due};
 ghost use Rattle.pool_rule.specs.EqualParts.{bearers, part_of, left_after, equal_parts};
 ghost use Rattle.pool_rule.specs.Evenly.{equal_parts_fair};
 
@@ -14,24 +14,16 @@ pub struct EqualParts;
 fn bearers(rows: &[MemberRow]) -> u64
     ensures { result ≡ bearers rows.now }
 {
-    let mut count = 0;
-    for row in rows {
-        if row.demand > 0 {
-            count += 1;
-        }
-    }
-    count
+    rows.iter().filter(|row| row.demand > 0).count() as u64
 }
 
 // The even part, and the cents left over.
 fn divided(total: u64, among: u64) -> (u64, u64)
     ensures { result ≡ (total / among, total % among) }
 {
-    if among == 0 {
-        (0, total)
-    } else {
-        (total / among, total % among)
-    }
+    let even = total.checked_div(among).unwrap_or(0);
+    let left = total.checked_rem(among).unwrap_or(total);
+    (even, left)
 }
 
 // The even part, and one of the cents left over while there are any.
@@ -58,13 +50,13 @@ fn left_after(left: u64, row: &MemberRow) -> u64
 
 fn share_equally(total: u64, rows: &[MemberRow], shares: &mut [u64])
     requires due { Due total rows.now }
-    requires room { length rows.now ≤ length shares.old }
-    ensures { shares.new ≡ written (equal_parts total rows.now) shares.old }
+    requires room { length shares.old ≡ length rows.now }
+    ensures { shares.new ≡ equal_parts total rows.now }
 {
     let (even, mut left) = divided(total, bearers(rows));
-    for i in 0..rows.len() {
-        shares[i] = part_of(even, left, &rows[i]);
-        left = left_after(left, &rows[i]);
+    for (i, row) in rows.iter().enumerate() {
+        shares[i] = part_of(even, left, row);
+        left = left_after(left, row);
     }
 }
 
@@ -75,7 +67,7 @@ impl SharingRule for EqualParts {
 
     fn share(&self, total: i64, rows: &[MemberRow], shares: &mut [u64]) -> Result<(), Refusal> {
         let total = admit(total, rows, shares.len())?;
-        share_equally(total, rows, shares);
+        share_equally(total, rows, &mut shares[..rows.len()]);
         Ok(())
     }
 }
