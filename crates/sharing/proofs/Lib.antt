@@ -1,2 +1,1 @@
-pub mod Admits
-pub mod Answered
+pub mod Nobody

@@ -13,7 +13,7 @@ const MOST_ENERGY: u64 = 153_600_000;
 
 // The test that every rule begins with: the total to be shared, or why there is none. `there` is how many entries the
 // share list has.
-#[tactic(auto, using(crate::proofs::Admits::due_made, crate::proofs::Admits::nobody_exactly))]
+#[tactic(auto, using(crate::proofs::Nobody::nobody_exactly))]
 pub fn admit(total: i64, rows: &[MemberRow], there: usize) -> Result<u64, Refusal>
     ensures reply { result ≡ admitted total rows.now there }
     ensures due { IfOk result (λ t. Due t rows.now × (length rows.now ≤ there)) }

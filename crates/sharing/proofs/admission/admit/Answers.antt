@@ -1,5 +1,5 @@
 use Rattle.std.proofs.Common.{rules}
-use Rattle.sharing.proofs.Admits.{nobody_exactly}
+use Rattle.sharing.proofs.Nobody.{nobody_exactly}
 use Rattle.sharing.proofs.admission.admit.Goals as goal
 
 pub returns-then-demand-gt-MOST_ENERGY-clause-nobody : goal.returns-then-demand-gt-MOST_ENERGY-clause-nobody

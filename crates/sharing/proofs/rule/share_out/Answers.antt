@@ -1,6 +1,6 @@
 use Rattle.std.proofs.Common.{◌≡◌, length, refl, rules}
 use Rattle.sharing.specs.Admission.{admitted, answered}
-use Rattle.sharing.proofs.Answered.{answered_nobody}
+use Rattle.sharing.proofs.Nobody.{answered_nobody}
 use Rattle.sharing.proofs.rule.share_out.Goals as goal
 
 pub returns-clause-nobody : goal.returns-clause-nobody
