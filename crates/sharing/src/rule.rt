@@ -20,6 +20,7 @@ pub trait SharingRule {
 }
 
 // What an answer comes to under every rule, ours and a pool's own.
+#[tactic(auto, using(crate::proofs::Nobody::answered_nobody))]
 pub fn share_out<R: SharingRule>(
     rule: &R,
     total: i64,
