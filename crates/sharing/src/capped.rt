@@ -2,8 +2,7 @@ ghost use Rattle.std.specs.Prelude.{◌≡◌, ◌+◌, ◌≤◌, min, length, 
 ghost use Rattle.sharing.specs.Admission.{most_total, admitted, answered, filled, Due};
 ghost use Rattle.sharing.specs.Rules.{both, cap, caps, own_amounts, capped};
 ghost use Rattle.std.proofs.Common.{arith};
-ghost use Rattle.sharing.specs.Tiers.{due_less};
-ghost use Rattle.sharing.specs.Tiers.{rest, capped_fair};
+ghost use Rattle.sharing.specs.Tiers.{due_less, rest, capped_fair};
 
 use crate::admission::admit;
 use crate::rows::{MOST_ROWS, MemberRow};
@@ -73,6 +72,7 @@ fn share_in_tier<R: SharingRule>(
     requires room { length shares.old ≡ length rows.now }
     ensures { shares.new ≡ capped rate (R.SharingRule.meaning below.now) total rows.now }
 {
+    // There is no heap to take a list from, so there is room for as many as a rule takes.
     let mut own = [0; MOST_ROWS];
     let own = &mut own[..rows.len()];
     let borne = bear(rate, total, rows, own);
@@ -105,13 +105,8 @@ impl<R: SharingRule> SharingRule for Capped<R> {
 
     fn share(&self, total: i64, rows: &[MemberRow], shares: &mut [u64]) -> Result<(), Refusal> {
         let total = admit(total, rows, shares.len())?;
-        share_in_tier(
-            self.rate,
-            &self.below,
-            total,
-            rows,
-            &mut shares[..rows.len()],
-        );
+        let shares = &mut shares[..rows.len()];
+        share_in_tier(self.rate, &self.below, total, rows, shares);
         Ok(())
     }
 }
