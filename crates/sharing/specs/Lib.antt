@@ -1,5 +1,6 @@
 pub mod Rows
 pub mod Admission
+pub mod Levies
 pub mod ShareLaw
 pub mod ProRata
 pub mod Rules

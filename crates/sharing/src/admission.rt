@@ -1,6 +1,8 @@
 ghost use Rattle.std.specs.Prelude.{◌≡◌, ◌≤◌, length, IfOk, Err};
-ghost use Rattle.sharing.specs.Admission.{admitted, no_demand, Due, Exactly, NobodyBears};
+ghost use Rattle.sharing.specs.Admission.{admitted, answered, no_demand, Due, Exactly, NobodyBears};
+ghost use Rattle.sharing.specs.Levies.{levy_parts};
 
+use crate::levy::Levy;
 use crate::rows::{MOST_ROWS, MemberRow};
 use crate::weights::weigh;
 use refusal::{Pot, Refusal};
@@ -41,4 +43,20 @@ pub fn admit(total: i64, rows: &[MemberRow], there: usize) -> Result<u64, Refusa
         return Err(Refusal::NoDemand { pot: Pot::Unnamed });
     }
     Ok(total.unsigned_abs())
+}
+
+impl<'a> Levy<'a> {
+    // The total, with the rows that bear it; or why there is none.
+    // `there` is how many entries the share list has.
+    pub(crate) fn admitted(
+        total: i64,
+        rows: &'a [MemberRow],
+        there: usize,
+    ) -> Result<Levy<'a>, Refusal>
+        ensures reply { levy_parts result ≡ answered (admitted total rows.now there) (λ t. (t, rows.now)) }
+        ensures room { IfOk result (λ _. length rows.now ≤ there) }
+    {
+        let total = admit(total, rows, there)?;
+        Ok(Levy { total, rows })
+    }
 }

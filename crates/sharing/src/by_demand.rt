@@ -1,13 +1,13 @@
 ghost use Rattle.std.specs.Prelude.{◌≡◌, ◌≤◌, length, replicate, OnOk, unsigned_abs};
 ghost use Rattle.std.proofs.Common.{sym, subst};
 ghost use Rattle.sharing.specs.Rows.{demands};
-ghost use Rattle.sharing.specs.Admission.{admitted, answered, filled, Due};
+ghost use Rattle.sharing.specs.Admission.{admitted, answered, filled};
 ghost use Rattle.sharing.specs.ProRata.{UpTo};
 ghost use Rattle.sharing.specs.Rules.{by_demand};
 ghost use Rattle.sharing.specs.ShareLaw.{Fair};
 ghost use Rattle.sharing.specs.Demanded.{by_demand-is, pro_rata_fair};
 
-use crate::admission::admit;
+use crate::levy::Levy;
 use crate::rows::MemberRow;
 use crate::rule::SharingRule;
 use crate::weights::pro_rata;
@@ -18,15 +18,14 @@ use refusal::Refusal;
 pub struct ByDemand;
 
 // A total of zero gives zeros, also where nobody has demand.
-fn by_demand(total: u64, rows: &[MemberRow], shares: &mut [u64])
-    requires due { Due total rows.now }
-    requires room { length shares.old ≡ length rows.now }
-    ensures { shares.new ≡ by_demand total rows.now }
+fn by_demand(levy: Levy<'_>, shares: &mut [u64])
+    requires room { length shares.old ≡ length levy.rows.now }
+    ensures { shares.new ≡ by_demand levy.entry.total levy.entry.rows.now }
 {
-    if total == 0 {
+    if levy.total == 0 {
         shares.fill(0);
     } else {
-        pro_rata(total, rows, |row| row.demand, shares);
+        pro_rata(levy, |row| row.demand, shares);
     }
 }
 
@@ -41,8 +40,8 @@ impl SharingRule for ByDemand {
         ensures keeps { self.exit.now ≡ self.entry.now }
         ensures law { OnOk result (UpTo (unsigned_abs total) (demands rows.now) shares.new) }
     {
-        let total = admit(total, rows, shares.len())?;
-        by_demand(total, rows, &mut shares[..rows.len()]);
+        let levy = Levy::admitted(total, rows, shares.len())?;
+        by_demand(levy, &mut shares[..rows.len()]);
         Ok(())
     }
 }

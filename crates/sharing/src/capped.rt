@@ -1,10 +1,10 @@
 ghost use Rattle.std.specs.Prelude.{◌≡◌, ◌+◌, ◌≤◌, min, length, sum};
-ghost use Rattle.sharing.specs.Admission.{most_total, admitted, answered, filled, Due};
+ghost use Rattle.sharing.specs.Admission.{most_total, admitted, answered, filled};
 ghost use Rattle.sharing.specs.Rules.{both, cap, caps, own_amounts, capped};
 ghost use Rattle.std.proofs.Common.{arith};
 ghost use Rattle.sharing.specs.Tiers.{due_less, rest, capped_fair};
 
-use crate::admission::admit;
+use crate::levy::Levy;
 use crate::rows::{MOST_ROWS, MemberRow};
 use crate::rule::{SharingRule, share_due};
 use crate::weights::pro_rata;
@@ -39,14 +39,13 @@ fn hold_to_caps(rate: u32, rows: &[MemberRow], amounts: &mut [u64])
 }
 
 // Each member's own amount, and their sum.
-fn bear(rate: u32, total: u64, rows: &[MemberRow], own: &mut [u64]) -> u64
-    requires due { Due total rows.now }
-    requires room { length own.old ≡ length rows.now }
-    ensures reply { result ≡ sum (own_amounts rate total rows.now) }
-    ensures after { own.new ≡ own_amounts rate total rows.now }
+fn bear(rate: u32, levy: Levy<'_>, own: &mut [u64]) -> u64
+    requires room { length own.old ≡ length levy.rows.now }
+    ensures reply { result ≡ sum (own_amounts rate levy.entry.total levy.entry.rows.now) }
+    ensures after { own.new ≡ own_amounts rate levy.entry.total levy.entry.rows.now }
 {
-    pro_rata(total, rows, |row| row.deviation, own);
-    hold_to_caps(rate, rows, own);
+    pro_rata(levy, |row| row.deviation, own);
+    hold_to_caps(rate, levy.rows, own);
     own.iter().sum()
 }
 
@@ -61,22 +60,15 @@ fn add_each(own: &[u64], shares: &mut [u64])
 }
 
 // The rule below shares what the own amounts leave, and they are added to its shares.
-fn share_in_tier<R: SharingRule>(
-    rate: u32,
-    below: &R,
-    total: u64,
-    rows: &[MemberRow],
-    shares: &mut [u64],
-)
-    requires due { Due total rows.now }
-    requires room { length shares.old ≡ length rows.now }
-    ensures { shares.new ≡ capped rate (R.SharingRule.meaning below.now) total rows.now }
+fn share_in_tier<R: SharingRule>(rate: u32, below: &R, levy: Levy<'_>, shares: &mut [u64])
+    requires room { length shares.old ≡ length levy.rows.now }
+    ensures { shares.new ≡ capped rate (R.SharingRule.meaning below.now) levy.entry.total levy.entry.rows.now }
 {
     // There is no heap to take a list from, so there is room for as many as a rule takes.
     let mut own = [0; MOST_ROWS];
-    let own = &mut own[..rows.len()];
-    let borne = bear(rate, total, rows, own);
-    share_due(below, total - borne, rows, shares);
+    let own = &mut own[..levy.rows.len()];
+    let borne = bear(rate, levy, own);
+    share_due(below, levy.without(borne), shares);
     add_each(own, shares);
 }
 
@@ -91,8 +83,8 @@ impl<R> Capped<R> {
         ensures reply { result ≡ answered (admitted total rows.now (length own.old)) (λ t. sum (own_amounts self.now.rate t rows.now)) }
         ensures after { own.new ≡ filled (admitted total rows.now (length own.old)) (λ t. own_amounts self.now.rate t rows.now) own.old }
     {
-        let total = admit(total, rows, own.len())?;
-        Ok(bear(self.rate, total, rows, &mut own[..rows.len()]))
+        let levy = Levy::admitted(total, rows, own.len())?;
+        Ok(bear(self.rate, levy, &mut own[..rows.len()]))
     }
 }
 
@@ -104,9 +96,8 @@ impl<R: SharingRule> SharingRule for Capped<R> {
         capped_fair s.rate t rows (R.SharingRule.meaning s.below) (R.SharingRule.fair s.below left rows (due_less t left rows (omega arith) due)) };
 
     fn share(&self, total: i64, rows: &[MemberRow], shares: &mut [u64]) -> Result<(), Refusal> {
-        let total = admit(total, rows, shares.len())?;
-        let shares = &mut shares[..rows.len()];
-        share_in_tier(self.rate, &self.below, total, rows, shares);
+        let levy = Levy::admitted(total, rows, shares.len())?;
+        share_in_tier(self.rate, &self.below, levy, &mut shares[..rows.len()]);
         Ok(())
     }
 }

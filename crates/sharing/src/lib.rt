@@ -5,6 +5,7 @@
 mod admission;
 mod by_demand;
 mod capped;
+mod levy;
 mod rows;
 mod rule;
 mod weights;

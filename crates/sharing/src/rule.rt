@@ -3,6 +3,7 @@ ghost use Rattle.sharing.specs.declared.rows.MemberRow.{MemberRow};
 ghost use Rattle.sharing.specs.Admission.{admitted, answered, filled, no_demand, Due, Exactly, NobodyBears};
 ghost use Rattle.sharing.specs.ShareLaw.{Fair};
 
+use crate::levy::Levy;
 use crate::rows::MemberRow;
 use refusal::Refusal;
 
@@ -37,16 +38,10 @@ pub fn share_out<R: SharingRule>(
 }
 
 // A total that is due is shared: the rule has nothing to refuse.
-pub(crate) fn share_due<R: SharingRule>(
-    rule: &R,
-    total: u64,
-    rows: &[MemberRow],
-    shares: &mut [u64],
-)
-    requires due { Due total rows.now }
-    requires room { length shares.old ≡ length rows.now }
-    ensures after { shares.new ≡ R.SharingRule.meaning rule.now total rows.now }
-    ensures law { Fair total rows.now (R.SharingRule.meaning rule.now total rows.now) }
+pub(crate) fn share_due<R: SharingRule>(rule: &R, levy: Levy<'_>, shares: &mut [u64])
+    requires room { length shares.old ≡ length levy.rows.now }
+    ensures after { shares.new ≡ R.SharingRule.meaning rule.now levy.entry.total levy.entry.rows.now }
+    ensures law { Fair levy.entry.total levy.entry.rows.now (R.SharingRule.meaning rule.now levy.entry.total levy.entry.rows.now) }
 {
-    let _ = rule.share(total as i64, rows, shares);
+    let _ = rule.share(levy.total as i64, levy.rows, shares);
 }

@@ -3,6 +3,7 @@ ghost use Rattle.sharing.specs.declared.rows.MemberRow.{MemberRow};
 ghost use Rattle.sharing.specs.Admission.{most_total, most_rows, most_energy};
 ghost use Rattle.sharing.specs.ProRata.{quotient, part, pro_rata, UpTo};
 
+use crate::levy::Levy;
 use crate::rows::MemberRow;
 
 // The weight of all, of any size: so few numbers of 32 bits cannot pass 64.
@@ -35,27 +36,20 @@ fn part(total: u64, whole: u64, before: u64, weight: u64) -> u64
 }
 
 // One share for each row, by the weight that `weight` reads off it.
-pub(crate) fn pro_rata<W: Fn(&MemberRow) -> u32>(
-    total: u64,
-    rows: &[MemberRow],
-    weight: W,
-    shares: &mut [u64],
-)
+pub(crate) fn pro_rata<W: Fn(&MemberRow) -> u32>(levy: Levy<'_>, weight: W, shares: &mut [u64])
     ghost w: { MemberRow → ℕ }
     requires callable { W.IsAlwaysCallable weight }
     requires weighs { (row : _) (n : _) → W.post weight row n → n ≡ w row.now }
-    requires low { total ≤ most_total }
-    requires few { length rows.now ≤ most_rows }
-    requires light { sum (map w rows.now) ≤ most_energy }
-    requires room { length shares.old ≡ length rows.now }
-    ensures after { shares.new ≡ pro_rata total (map w rows.now) }
-    ensures law { UpTo total (map w rows.now) shares.new }
+    requires light { sum (map w levy.rows.now) ≤ most_energy }
+    requires room { length shares.old ≡ length levy.rows.now }
+    ensures after { shares.new ≡ pro_rata levy.entry.total (map w levy.entry.rows.now) }
+    ensures law { UpTo levy.entry.total (map w levy.entry.rows.now) shares.new }
 {
-    let whole = weigh(rows, &weight);
+    let whole = weigh(levy.rows, &weight);
     let mut before = 0;
-    for (i, row) in rows.iter().enumerate() {
+    for (i, row) in levy.rows.iter().enumerate() {
         let weight = u64::from(weight(row));
-        shares[i] = part(total, whole, before, weight);
+        shares[i] = part(levy.total, whole, before, weight);
         before += weight;
     }
 }

@@ -6,6 +6,6 @@ use Rattle.sharing.proofs.weights.pro_rata.Goals as goal
 
 pub returns-clause-law : goal.returns-clause-law
 returns-clause-law g c =
-    let weights = map g.w c.args.rows.now in
-    let after : c.loop-i.shares ≡ pro_rata c.args.total weights = grind (arith, common_steps) in
-    rw after (pro_rata_up_to c.args.total weights)
+    let weights = map g.w c.args.levy.rows.now in
+    let after : c.loop-i.shares ≡ pro_rata c.args.levy.total weights = grind (arith, common_steps) in
+    rw after (pro_rata_up_to c.args.levy.total weights)

@@ -7,5 +7,5 @@ ghost-weigh g a = g.w
 
 abbrev pub invariant-loop-i : goal.invariant-loop-i
 invariant-loop-i g l =
-    (l.before + sum (map g.w (drop l.i l.rows)) ≡ sum (map g.w l.rows))
-    × (take l.i l.shares ++ pro_rata_from l.total l.whole l.before (map g.w (drop l.i l.rows)) ≡ pro_rata l.total (map g.w l.rows))
+    (l.before + sum (map g.w (drop l.i l.levy.rows.now)) ≡ sum (map g.w l.levy.rows.now))
+    × (take l.i l.shares ++ pro_rata_from l.levy.total l.whole l.before (map g.w (drop l.i l.levy.rows.now)) ≡ pro_rata l.levy.total (map g.w l.levy.rows.now))
