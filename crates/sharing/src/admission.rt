@@ -46,8 +46,7 @@ pub fn admit(total: i64, rows: &[MemberRow], there: usize) -> Result<u64, Refusa
 }
 
 impl<'a> Levy<'a> {
-    // The total, with the rows that bear it; or why there is none.
-    // `there` is how many entries the share list has.
+    // The total with the rows that bear it, or why it is refused.
     pub(crate) fn admitted(
         total: i64,
         rows: &'a [MemberRow],

@@ -12,7 +12,7 @@ pub(crate) struct Levy<'a> {
 }
 
 impl<'a> Levy<'a> {
-    // What is left of it where `borne` is borne already.
+    // What is left to share where `borne` is borne already.
     pub(crate) fn without(self, borne: u64) -> Levy<'a>
         ensures total { result.total ≡ self.entry.total - borne }
         ensures rows { result.rows.now ≡ self.entry.rows.now }

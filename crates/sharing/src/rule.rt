@@ -37,7 +37,7 @@ pub fn share_out<R: SharingRule>(
     rule.share(total, rows, shares)
 }
 
-// A total that is due is shared: the rule has nothing to refuse.
+// A levy is shared: the rule has nothing to refuse.
 pub(crate) fn share_due<R: SharingRule>(rule: &R, levy: Levy<'_>, shares: &mut [u64])
     requires room { length shares.old ≡ length levy.rows.now }
     ensures after { shares.new ≡ R.SharingRule.meaning rule.now levy.entry.total levy.entry.rows.now }
