@@ -55,6 +55,7 @@ fn share_equally(total: u64, rows: &[MemberRow], shares: &mut [u64])
 {
     let (even, mut left) = divided(total, bearers(rows));
     for (i, row) in rows.iter().enumerate() {
+        // Written by its place: of a list gone through beside another, a proof knows no entry afterwards.
         shares[i] = part_of(even, left, row);
         left = left_after(left, row);
     }

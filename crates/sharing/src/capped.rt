@@ -34,6 +34,7 @@ fn hold_to_caps(rate: u32, rows: &[MemberRow], amounts: &mut [u64])
     ensures { amounts.new ≡ both min amounts.old (caps rate rows.now) }
 {
     for (i, row) in rows.iter().enumerate() {
+        // Written by its place: of a list gone through beside another, a proof knows no entry afterwards.
         amounts[i] = amounts[i].min(cap(rate, row.deviation));
     }
 }
@@ -55,6 +56,7 @@ fn add_each(own: &[u64], shares: &mut [u64])
     ensures { shares.new ≡ both ◌+◌ own.now shares.old }
 {
     for (i, amount) in own.iter().enumerate() {
+        // Written by its place: of a list gone through beside another, a proof knows no entry afterwards.
         shares[i] += *amount;
     }
 }

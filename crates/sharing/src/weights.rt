@@ -49,6 +49,7 @@ pub(crate) fn pro_rata<W: Fn(&MemberRow) -> u32>(levy: Levy<'_>, weight: W, shar
     let mut before = 0;
     for (i, row) in levy.rows.iter().enumerate() {
         let weight = u64::from(weight(row));
+        // Written by its place: of a list gone through beside another, a proof knows no entry afterwards.
         shares[i] = part(levy.total, whole, before, weight);
         before += weight;
     }
