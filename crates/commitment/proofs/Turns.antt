@@ -1,26 +1,10 @@
 -- The loops of a day, turn by turn.
-use Rattle.std.proofs.Common.{◌≡◌, ℕ, suc, ◌+◌, ◌-◌, ◌<◌, ◌≤◌, Bool, true, false, cond, List, [], ◌∷◌, ◌++◌, map, length, get_or, take, drop, set, Some, sym, ap, ◌∙◌, append_assoc, append-nil, arith}
-use Rattle.std.proofs.lemmas.List.{take_more_set, take_all, drop-set-lt, at_drop_more, at_drop_all}
+use Rattle.std.proofs.Common.{◌≡◌, ℕ, suc, ◌+◌, ◌-◌, ◌<◌, ◌≤◌, Bool, true, false, cond, List, ◌++◌, length, get_or, take, drop, set, Some, ap, ◌∙◌, append_assoc, arith}
+use Rattle.std.proofs.lemmas.List.{take_more_set, drop-set-lt, at_drop_more, at_drop_all}
 use Rattle.commitment.specs.declared.stretch.Stretch.{Stretch}
 use Rattle.commitment.specs.Stretches.{added, gap}
 use Rattle.commitment.specs.Commitment.{stays, held_from, join, fill_from, joined, joins}
 use Rattle.commitment.proofs.Scans.{added-all}
-
--- a loop that writes a list from the front: what is to come is x and then rest, and x is written
-pub write_step : {X : Type 0} (out : List X) (i : ℕ) (x : X) (now rest goal : List X) → i < length out → now ≡ x ∷ rest → take i out ++ now ≡ goal → take (i + 1) (set out i x) ++ rest ≡ goal
-write_step out i x now rest goal k e inv =
-    let t = take_more_set out i x k in
-    let a = append_assoc (take i out) (x ∷ []) rest in
-    cc
-
-pub write_end : {X : Type 0} (out : List X) (i : ℕ) (now goal : List X) → length out ≤ i → now ≡ [] → take i out ++ now ≡ goal → out ≡ goal
-write_end out i now goal k e inv =
-    let t = take_all i out k in
-    let a = append-nil out in
-    cc
-
-pub map_now : {X Y : Type 0} (f : X → Y) (xs : List X) (i : ℕ) (d : X) (y : Y) → i < length xs → y ≡ f (get_or xs i d) → map f (drop i xs) ≡ y ∷ map f (drop (i + 1) xs)
-map_now f xs i d y h e = at_drop_more (map f) xs i d h ∙ ap (λ z. z ∷ map f (drop (i + 1) xs)) (sym e)
 
 -- an hour of the day becomes whether it is held
 pub held_more : (mrt ran next i : ℕ) (hours : List Bool) (on : Bool) → i < length hours → on ≡ stays mrt ran (get_or hours i false) → next ≡ cond on (ran + 1) 0
