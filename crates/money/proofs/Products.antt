@@ -1,8 +1,6 @@
 -- Sizes of signed products and sums.
-use Rattle.std.proofs.Common.{◌≡◌, ℕ, zero, suc, ◌+◌, ◌*◌, ◌^◌, ◌<◌, ◌≤◌, ℤ, pos, negsuc, ◌+ℤ◌, ◌*ℤ◌, neg_ℤ, nat_abs, sym, refl, subst, arith, SFits}
-use mir.Syntax.{Width}
-use mir.Val.{hbits}
-use Rattle.std.proofs.lemmas.Int.{unsigned_abs-mul, fits_signed_from_abs}
+use Rattle.std.proofs.Common.{◌≡◌, ℕ, zero, suc, ◌+◌, ◌*◌, ◌≤◌, ℤ, pos, negsuc, ◌+ℤ◌, ◌*ℤ◌, neg_ℤ, nat_abs, sym, refl, subst, arith}
+use Rattle.std.proofs.lemmas.Int.{unsigned_abs-mul}
 use Rattle.std.proofs.lemmas.Nat.{mul-le}
 
 pub abs_neg : (n : ℕ) → nat_abs (neg_ℤ (pos n)) ≡ n
@@ -22,6 +20,3 @@ abs-add-le (pos a) (pos b) = omega arith
 abs-add-le (pos a) (negsuc b) = grind arith
 abs-add-le (negsuc a) (pos b) = grind arith
 abs-add-le (negsuc a) (negsuc b) = omega arith
-
-pub fits-abs : (w : Width) (z : ℤ) → nat_abs z < 2 ^ hbits w → SFits w z
-fits-abs = fits_signed_from_abs

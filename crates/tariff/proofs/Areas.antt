@@ -2,8 +2,8 @@
 use Rattle.std.proofs.Common.{◌≡◌, ℕ, zero, suc, ◌+◌, ◌-◌, ◌*◌, ◌^◌, ◌<◌, ◌≤◌, max, ℤ, pos, ◌+ℤ◌, ◌*ℤ◌, nat_abs, sym, ap, ◌∙◌, subst, ⊎_elim, arith, w64, SFits, to_z, of_z}
 use lib.IntN.{suc_ℤ-*ℤ, zero-*ℤ}
 use Rattle.std.proofs.lemmas.Bool.{cases_lt, cond-true, cond-false, lt-ltb, le-ltb}
-use Rattle.std.proofs.lemmas.Int.{ints, to_z-of_z}
-use Rattle.money.proofs.Products.{abs-mul-le, abs-add-le, fits-abs}
+use Rattle.std.proofs.lemmas.Int.{ints, to_z-of_z, fits_signed_from_abs}
+use Rattle.money.proofs.Products.{abs-mul-le, abs-add-le}
 use Rattle.tariff.specs.declared.generator.EnergyBid.{EnergyBid}
 use Rattle.tariff.specs.Bids.{between, area, price_at, one_by_one, Priced}
 
@@ -94,7 +94,7 @@ pub added : (b : EnergyBid) (v d : ℕ) (first second third : ℤ) → d < 2 ^ 3
 added b v d first second third few e f g =
     let size = parts-size b v d in
     let two : first +ℤ second ≡ two_parts b v d = λ i. e i +ℤ f i in
-    let two_fit = subst (SFits w64) (sym two) (fits-abs w64 _ (omega (arith, size.two))) in
+    let two_fit = subst (SFits w64) (sym two) (fits_signed_from_abs w64 _ (omega (arith, size.two))) in
     let all : to_z w64 (of_z w64 (first +ℤ second)) +ℤ third ≡ area b v d = λ i. (to_z-of_z w64 _ two_fit ∙ two) i +ℤ g i in
-    let all_fit = subst (SFits w64) (sym all) (fits-abs w64 _ (omega (arith, size.all))) in
+    let all_fit = subst (SFits w64) (sym all) (fits_signed_from_abs w64 _ (omega (arith, size.all))) in
     record { two_fit = two_fit; all_fit = all_fit; is = to_z-of_z w64 _ all_fit ∙ all }

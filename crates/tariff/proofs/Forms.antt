@@ -1,8 +1,7 @@
 -- A generator as registering makes it: each number of the form, narrowed and read back, is the number of the form.
 use Rattle.std.proofs.Common.{◌≡◌, ◌^◌, ◌<◌, true, ℤ, pos, nat_abs, sym, ap, ◌∙◌, subst, arith, w32, w64, to_z, of_z}
 use lib.Signed.{lt_z}
-use Rattle.std.proofs.lemmas.Int.{ints, to_z-of_z}
-use Rattle.money.proofs.Products.{fits-abs}
+use Rattle.std.proofs.lemmas.Int.{ints, to_z-of_z, fits_signed_from_abs}
 use Rattle.tariff.specs.declared.generator.GeneratorForm.{GeneratorForm}
 use Rattle.hours.specs.Ranges.{all_fit, all_in}
 use Rattle.tariff.specs.Generators.{generator_fields, form_bounds}
@@ -15,10 +14,10 @@ abbrev narrow : ℤ → ℤ
 narrow z = to_z w32 (of_z w32 (wide z))
 
 wide_is : (z : ℤ) → nat_abs z < 2 ^ 31 → wide z ≡ z
-wide_is z h = to_z-of_z w64 z (fits-abs w64 z (omega arith))
+wide_is z h = to_z-of_z w64 z (fits_signed_from_abs w64 z (omega arith))
 
 narrow-is : (z : ℤ) → nat_abs z < 2 ^ 31 → narrow z ≡ z
-narrow-is z h = ap (λ x. to_z w32 (of_z w32 x)) (wide_is z h) ∙ to_z-of_z w32 z (fits-abs w32 z h)
+narrow-is z h = ap (λ x. to_z w32 (of_z w32 x)) (wide_is z h) ∙ to_z-of_z w32 z (fits_signed_from_abs w32 z h)
 
 abbrev pub numbers_of : GeneratorForm → Numbers
 numbers_of f = (
