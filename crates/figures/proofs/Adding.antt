@@ -1,22 +1,21 @@
 -- Sums along a list, of amounts and of quantities alike, and the chains that add them up.
-use Rattle.std.proofs.Common.{◌≡◌, ℕ, ◌+◌, ◌*◌, ◌^◌, ◌≤◌, Bool, true, false, not, cond, List, [], ◌∷◌, ◌++◌, length, ℤ, pos, negsuc, ◌+ℤ◌, nat_abs, fold, filter, Option, sym, refl, ap, ◌∙◌, add-zero, add_assoc, add_comm, zero-add, mul-one, mul-add, length-append, arith, w64, to_z, of_z}
+use Rattle.std.proofs.Common.{◌≡◌, ℕ, ◌+◌, ◌*◌, ◌^◌, ◌≤◌, Bool, true, false, not, cond, List, [], ◌∷◌, ◌++◌, length, ℤ, pos, ◌+ℤ◌, nat_abs, fold, filter, Option, sym, refl, ap, ◌∙◌, add-zero, add_assoc, add_comm, zero-add, mul-one, mul-add, length-append, arith}
 use lib.IntN.{+ℤ_idl, +ℤ_idr, +ℤ_assoc, +ℤ_comm}
 use denote.Param.Members.{Mut}
 use Rattle.std.specs.declared.iter.Map.{Map}
 use Rattle.std.specs.Bool.{⊤}
 use Rattle.std.specs.Fn.{Called}
-use Rattle.std.specs.Int.{saturate_to_bits}
 use Rattle.std.specs.Iterator.{Drains, FoldsItems}
 use Rattle.std.specs.Iterator.Adapters.{map_source, map_callee, map_steps}
 use Rattle.std.proofs.iter.runs.Made.{run, seen, to_end}
 use Rattle.std.proofs.lemmas.Fn.{fold_over}
-use Rattle.std.proofs.lemmas.Int.{to_z-of_z, fits_signed_from_abs}
 use Rattle.std.proofs.lemmas.Iterator.{YieldsList}
 use Rattle.std.proofs.lemmas.Iterator.Adapters.{YieldsAtMost, fits_from_length}
 use Rattle.std.proofs.lemmas.List.Filters.{length-filter_both}
 use Rattle.std.proofs.lemmas.List.Sums.{fold_push}
 use Rattle.std.proofs.lemmas.Nat.{mul-le}
 use Rattle.money.proofs.Products.{abs-add-le}
+use Rattle.money.proofs.Sums.{held, held-exact}
 
 -- what can be added up, in any order
 pub record Sums (A : Type 0) : Type 0 where
@@ -68,20 +67,6 @@ over_kept s p f (x ∷ xs) =
 pub length_kept : {X : Type 0} (p : X → Bool) (xs : List X) → length (filter p xs) ≤ length xs
 length_kept p xs = omega (arith, length-filter_both p (λ x. not (p x)) (λ _. refl) xs)
 
--- what `plus` gives, of numbers read from their bits: far from the ends of i64 it is their sum
-abbrev pub held : ℤ → ℤ → ℤ
-held a x = saturate_to_bits 63 (to_z w64 (of_z w64 a) +ℤ to_z w64 (of_z w64 x))
-
-within : (z : ℤ) → nat_abs z ≤ 2 ^ 61 → saturate_to_bits 63 z ≡ z
-within (pos n) h = ap pos (omega arith)
-within (negsuc n) h = ap negsuc (omega arith)
-
-exact : (a x : ℤ) → nat_abs a ≤ 2 ^ 60 → nat_abs x ≤ 2 ^ 60 → held a x ≡ a +ℤ x
-exact a x h k =
-    let e = to_z-of_z w64 a (fits_signed_from_abs w64 a (omega arith)) in
-    let f = to_z-of_z w64 x (fits_signed_from_abs w64 x (omega arith)) in
-    (λ i. saturate_to_bits 63 (e i +ℤ f i)) ∙ within (a +ℤ x) (omega (arith, abs-add-le a x))
-
 -- the sum of so many, none of them larger than n
 abbrev pub Held : {X : Type 0} → (X → ℤ) → ℕ → List X → ℤ → Type 0
 Held f n xs total = length xs ≤ 32 → (total ≡ over amounts f xs) × (nat_abs total ≤ n * length xs)
@@ -91,7 +76,7 @@ held_more f n xs total next x far so_far is small few =
     let long : length (xs ++ (x ∷ [])) ≡ length xs + 1 = length-append xs (x ∷ []) in
     let before = so_far (omega arith) in
     let most = mul-le n (length xs) (2 ^ 50) 32 far (omega arith) in
-    let sum : next ≡ total +ℤ f x = is ∙ exact total (f x) (omega arith) (omega arith) in
+    let sum : next ≡ total +ℤ f x = is ∙ held-exact total (f x) (omega arith) (omega arith) in
     let room : n * length (xs ++ (x ∷ [])) ≡ n * length xs + n = ap (λ k. n * k) long ∙ mul-add n (length xs) 1 ∙ ap (λ m. n * length xs + m) (mul-one n) in
     (sum ∙ ap (λ z. z +ℤ f x) before.0 ∙ sym (fold_push (λ a y. a +ℤ f y) (pos 0) xs x), omega (arith, abs-add-le total (f x), ap nat_abs sum))
 
