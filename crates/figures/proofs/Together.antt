@@ -1,14 +1,14 @@
 -- The rows of all members together.
-use Rattle.std.proofs.Common.{◌≡◌, ℕ, zero, suc, ◌+◌, ◌*◌, ◌≤◌, List, [], ◌∷◌, map, length, Some, sum_by, sum, refl, ap, ◌∙◌, subst, add-one, arith}
+use Rattle.std.proofs.Common.{◌≡◌, ℕ, ◌*◌, ◌≤◌, List, [], ◌∷◌, map, length, Some, sum_by, sum, refl, ap, ◌∙◌, arith}
 use mathlib.Core.List.{map-map}
 use Rattle.std.specs.List.{AllByRecursion}
 use Rattle.std.proofs.lemmas.Nat.{mul-le}
 use Rattle.std.proofs.lemmas.List.Sums.{sum-map}
 use Rattle.std.proofs.ByRecursion.{sum_by_le}
-use Rattle.hours.specs.Days.{add_hours, record_at}
+use Rattle.hours.specs.Days.{record_at}
 use Rattle.hours.specs.Energy.{demand_at, deviation_at}
 use Rattle.hours.proofs.Sizes.{demand-size, deviation-size}
-use Rattle.hours.proofs.Sums.{Added, add_none, add-more}
+use Rattle.hours.proofs.Sums.{add-size}
 use Rattle.sharing.specs.declared.rows.MemberRow.{MemberRow}
 use Rattle.figures.specs.declared.standing.Resource.{Resource}
 use Rattle.figures.specs.Figures.{resource_demand, resource_deviation, member_row}
@@ -17,16 +17,11 @@ use Rattle.figures.specs.Standing.{counts, of_member}
 use Rattle.figures.proofs.Adding.{quantities, length_kept}
 use Rattle.figures.proofs.Exchange.{exchange}
 
-day-size : (f : ℕ → ℕ) (n : ℕ) → ((i : ℕ) → f i ≤ n) → (i : ℕ) → Added f n (add_hours f i) i
-unfolding add_hours
-day-size f n small zero = add_none f n
-day-size f n small (suc i) = subst (Added f n (add_hours f i + f i)) (add-one i) (add-more f n (add_hours f i) (f i) i refl (small i) (day-size f n small i))
-
 demand_of : (r : Resource) → resource_demand r ≤ 2400000
-demand_of r = (day-size (demand_at r.hours.slots) 100000 (λ i. demand-size (record_at r.hours.slots i)) 24).1
+demand_of r = add-size (demand_at r.hours.slots) 100000 (λ i. demand-size (record_at r.hours.slots i)) 24
 
 deviation_of : (r : Resource) → resource_deviation r ≤ 4800000
-deviation_of r = (day-size (deviation_at r.hours.slots) 200000 (λ i. deviation-size (record_at r.hours.slots i)) 24).1
+deviation_of r = add-size (deviation_at r.hours.slots) 200000 (λ i. deviation-size (record_at r.hours.slots i)) 24
 
 each : {X : Type 0} (P : X → Type 0) → ((x : X) → P x) → (xs : List X) → AllByRecursion P xs
 each P h [] = tt
