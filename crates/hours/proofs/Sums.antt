@@ -1,5 +1,5 @@
 -- Sums over the hours of a day, hour by hour.
-use Rattle.std.proofs.Common.{◌≡◌, ℕ, zero, suc, ◌+◌, ◌*◌, ◌^◌, ◌<◌, ◌≤◌, ℤ, pos, nat_abs, Option, List, [], ◌∷◌, map, sum, length, get_or, sym, refl, ap, ◌∙◌, subst, arith, w64, SFits, to_z, of_z}
+use Rattle.std.proofs.Common.{◌≡◌, ℕ, zero, suc, ◌+◌, ◌*◌, ◌^◌, ◌<◌, ◌≤◌, ℤ, pos, nat_abs, Option, None, List, [], ◌∷◌, map, sum, length, get_or, sym, refl, ap, ◌∙◌, subst, arith, w64, SFits, to_z, of_z}
 use Rattle.std.specs.Bool.{⊤}
 use Rattle.std.specs.Iterator.{Drains}
 use Rattle.std.specs.Iterator.Runs.{EachRunFrom}
@@ -10,10 +10,11 @@ use Rattle.std.proofs.lemmas.Iterator.Consumers.{sum_from_yields_List, fits_from
 use Rattle.std.proofs.lemmas.Nat.{mul-le}
 use Rattle.money.proofs.Products.{abs-add-le}
 use Rattle.money.proofs.Sums.{held, held-exact}
-use Rattle.hours.specs.Days.{over_hours, over_day, add_hours, add_day}
+use Rattle.hours.specs.declared.records.HourRecord.{HourRecord}
+use Rattle.hours.specs.Days.{counted, over_hours, over_day, add_hours, add_day, record_at}
 
 -- how large they can be, where no hour's part is larger than n
-pub over-size : (f : ℕ → ℤ) (n : ℕ) → ((i : ℕ) → nat_abs (f i) ≤ n) → (i : ℕ) → nat_abs (over_hours f i) ≤ n * i
+over-size : (f : ℕ → ℤ) (n : ℕ) → ((i : ℕ) → nat_abs (f i) ≤ n) → (i : ℕ) → nat_abs (over_hours f i) ≤ n * i
 unfolding over_hours
 over-size f n small zero = omega arith
 over-size f n small (suc i) = let e : n * suc i ≡ n * i + n = omega arith in omega (arith, over-size f n small i, small i, abs-add-le (over_hours f i) (f i))
@@ -47,18 +48,18 @@ module _ {X : Type 0} (f : ℕ → ℤ) (n : ℕ) (small : (i : ℕ) → nat_abs
       let e = to_z-of_z w64 r fits ∙ is ∙ whole in
       (e, subst (λ z. nat_abs z ≤ n * 24) (sym e) (over-size f n small 24))
 
--- quantities, as `sum` adds up what a chain s gives
-module _ {X S : Type 0} {steps : S → Option ℕ → S → Type 0} {s : S} (g : X → ℕ) (n : ℕ) (xs : List X) (d : X)
-    (day : length xs ≡ 24) (small : (x : X) → g x ≤ n) (road : YieldsList steps (λ x. x) s (map g xs)) where
+-- quantities of the records, as `sum` adds up what a chain s gives
+module _ {S : Type 0} {steps : S → Option ℕ → S → Type 0} {s : S} (h : HourRecord → ℕ) (n : ℕ) (slots : List (Option HourRecord))
+    (day : length slots ≡ 24) (small : (r : HourRecord) → h r ≤ n) (road : YieldsList steps (λ x. x) s (map (λ slot. h (counted slot)) slots)) where
   abbrev at_hour : ℕ → ℕ
-  at_hour k = g (get_or xs k d)
+  at_hour k = h (record_at slots k)
 
   most : add_day at_hour ≤ n * 24
-  most = add-size at_hour n (λ i. small (get_or xs i d)) 24
+  most = add-size at_hour n (λ k. small (record_at slots k)) 24
 
-  sum_is : sum (map g xs) ≡ add_day at_hour
+  sum_is : sum (map (λ slot. h (counted slot)) slots) ≡ add_day at_hour
   unfolding add_hours
-  sum_is = folded ◌+◌ at_hour (add_hours at_hour) (λ i h. refl) g d xs day (λ k h. refl)
+  sum_is = folded ◌+◌ at_hour (add_hours at_hour) (λ i below. refl) (λ slot. h (counted slot)) None slots day (λ k below. refl)
 
   pub added_fits : (top : ℕ) → n * 24 < top → EachRunFrom steps s (λ p. fold (λ a x. a + x) 0 p.items < top)
   added_fits top room = fits_from_yields_list s top road (omega (arith, sum_is, most))
