@@ -1,7 +1,7 @@
-ghost use Rattle.std.specs.Prelude.{◌≡◌, ◌+◌, ◌-◌, ◌<◌, ◌≤◌, Bool, ℕ, length, if◌then◌else◌, Some, None};
-ghost use Rattle.commitment.specs.Stretches.{listed, gap, gaps};
+ghost use Rattle.std.specs.Prelude.{◌≡◌, ◌+◌, ◌<◌, ◌≤◌, Bool, ℕ, length, if◌then◌else◌};
+ghost use Rattle.commitment.specs.Stretches.{listed, gaps};
 ghost use Rattle.commitment.specs.CommitmentLaws.{SelfCommitted};
-ghost use Rattle.commitment.specs.Commitment.{stays, held, join, fill, Chooses, bridged, smaller, smallest, joined, limit_of, limited, periods};
+ghost use Rattle.commitment.specs.Commitment.{stays, held, fill, Chooses, bridged, smallest, joined, limit_of, limited, periods};
 
 use crate::gaps::Gap;
 use crate::stretch::{Stretch, Stretches, gap};
@@ -82,10 +82,10 @@ fn bridge(periods: &Stretches, mdt: u8) -> Stretches
 fn join_smallest(periods: &Stretches) -> Stretches
     ensures { listed result ≡ joined (listed periods.now) }
 {
-    match smallest_gap(periods.as_slice()) {
-        None => *periods,
-        Some(gap) => fill(periods.as_slice(), |at, _| at == gap.at),
-    }
+    smallest_gap(periods.as_slice()).map_or(
+        *periods,
+        |gap| fill(periods.as_slice(), |at, _| at == gap.at),
+    )
 }
 
 fn limit_of(mds: u8, carried: bool, periods: &Stretches) -> usize

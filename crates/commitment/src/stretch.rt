@@ -9,7 +9,7 @@ pub struct Stretch {
     pub last: u8,
 }
 
-// The first `count` of the items, in the order of the day. It stays an array with a count beside it: nothing here is on
+// The first `count` of the items, in the order of the day. It is an array with a count beside it: nothing here is on
 // the heap, and the value is Copy, which no list of the library is.
 #[derive(Clone, Copy)]
 pub struct Stretches {

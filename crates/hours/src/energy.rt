@@ -66,7 +66,7 @@ impl Day<HourRecord> {
             .fold(0, |total, part| plus(total, part))
     }
 
-    // What a resource drew over the day, in kWh.
+    // What a resource drew over the day, in kWh. Beside `deviation` it differs in a word, and each is a line of the library's.
     pub fn demand(&self) -> u64
         ensures value { result ≡ demand self.now.slots }
         ensures bound { result ≤ 2400000 }

@@ -17,8 +17,8 @@ pub fn check(fields: &[Field]) -> Result<(), OutOfRange>
     ensures value { result ≡ checked fields.now }
     ensures cases { MatchResult result (λ _. Inside fields.now) (λ e. Outside fields.now e) }
 {
-    match fields.iter().position(|field| !field.fits()) {
-        Some(i) => Err(OutOfRange { field: i + 1 }),
-        None => Ok(()),
+    if let Some(i) = fields.iter().position(|field| !field.fits()) {
+        return Err(OutOfRange { field: i + 1 });
     }
+    Ok(())
 }

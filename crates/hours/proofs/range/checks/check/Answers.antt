@@ -14,8 +14,8 @@ returns-in-Some c =
     let first : ◌≡◌ {A = OutOfRange} (record { field = _ }) (out_of_range c.args.fields.now) = ap (λ n. record { field = n }) (sym out.1) in
     record { value = sym (cond-false _ _ _ out.0 ∙ ap Err (sym first)); cases = record { test = out.0; first = first } }
 
-pub returns-in-None : goal.returns-in-None
-returns-in-None c =
+pub returns : goal.returns
+returns c =
     let found = position_from_yields_List fits_not _ _ c.position.result c.position.ensures.ran (YieldsList-from_slice c.args.fields.now cc) (λ x b q k. search (rules, tests)) in
-    let fit = all_fit_none_out c.args.fields.now (sym found ∙ c.in-None.is) in
+    let fit = all_fit_none_out c.args.fields.now (sym found ∙ c.in_default.is) in
     record { value = sym (cond-true _ _ _ fit); cases = record { test = fit; all = all_in _ fit } }
