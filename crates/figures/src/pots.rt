@@ -14,7 +14,9 @@ impl<'a> Standing<'a> {
         ensures members { IfOk result (λ p. ByMembers (places_in self.now) (resources_in self.now) p) }
         ensures bound { IfOk result (λ p. (unsigned_abs p.0 ≤ most_total) × (p.1 ≤ most_total)) }
     {
-        self.missing_price().map_or(Ok(()), Err)?;
+        if let Some(missing) = self.missing_price() {
+            return Err(missing.into());
+        }
         let uplift = self.sum_of(None, |resource| resource.uplift(self.places));
         Ok((self.sum_energy(None), uplift))
     }

@@ -26,7 +26,9 @@ impl Resource {
     pub fn priced(&self, places: &[Place]) -> Result<Day<Price>, Refusal>
         ensures { result ≡ priced_day places.now self.now }
     {
-        self.missing_price(places).map_or(Ok(()), Err)?;
+        if let Some(missing) = self.missing_price(places) {
+            return Err(missing.into());
+        }
         Ok(prices_at(places, self.place))
     }
 }
@@ -37,7 +39,9 @@ impl<'a> Standing<'a> {
         ensures value { result ≡ unless_missing (missing (places_in self.now) (of_member member (resources_in self.now))) (member_energy (places_in self.now) (resources_in self.now) member) }
         ensures bound { IfOk result (λ e. unsigned_abs e ≤ 46080000000) }
     {
-        self.missing_price_of(member).map_or(Ok(()), Err)?;
+        if let Some(missing) = self.missing_price_of(member) {
+            return Err(missing.into());
+        }
         Ok(self.energy_of(member))
     }
 }

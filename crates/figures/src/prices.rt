@@ -1,6 +1,6 @@
-ghost use Rattle.std.specs.Prelude.{◌≡◌, not, ◌&&◌, is_some, if◌then◌else◌, None};
+ghost use Rattle.std.specs.Prelude.{◌≡◌, not, ◌&&◌, is_some};
 ghost use Rattle.figures.specs.Entries.{place_key};
-ghost use Rattle.figures.specs.Standing.{places_in, resources_in, counts, counted, of_member};
+ghost use Rattle.figures.specs.Standing.{places_in, resources_in, counted, of_member};
 ghost use Rattle.figures.specs.Prices.{prices_at, missing_hour, resource_missing, missing};
 
 use crate::standing::{MissingPrice, Place, Resource, Standing};

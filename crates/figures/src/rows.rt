@@ -13,8 +13,9 @@ pub struct Roll<'a> {
     ghost few: { length members.now ≤ 16 },
 }
 
-// The rows of a pool's members, in their order: the first `count` of the items. Without a heap, and copied as a value, they
-// have room for as many as a pool can have.
+// The rows of a pool's members, in their order: the first `count` of the items. An array with a count beside it, since
+// nothing here is on the heap, and no list of the library is Copy. One type over these and a list of stretches would be a
+// crate of its own for two fields and a line.
 #[derive(Clone, Copy)]
 pub struct Rows {
     items: [MemberRow; 16],

@@ -34,14 +34,15 @@ impl<'a> Roll<'a> {
     pub fn new(members: &'a [Member], standing: Standing<'a>) -> Option<Roll<'a>>
         ensures { roll_seen result ≡ roll_of members.now standing.entry }
     {
-        // An early return: in a closure, as `then` takes one, the bound would have to be stated again.
+        // Tested here, as in `Standing::new`: what is made differs, and so does what its type asks.
         if members.len() > MOST_MEMBERS {
             return None;
         }
         Some(Roll { members, standing })
     }
 
-    // The row of the member at a place, behind the last nobody's.
+    // The row of the member at a place, behind the last nobody's. Matched, since of what a closure of `map_or` answers here
+    // a proof learns nothing.
     fn row_at(&self, i: usize) -> MemberRow
         ensures { IfSome (slice_get (members_in self.now) i) (λ m. result ≡ member_row (resources_in self.now.standing) m.id) }
     {

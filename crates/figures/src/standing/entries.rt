@@ -1,4 +1,4 @@
-ghost use Rattle.std.specs.Prelude.{◌≡◌, is_some};
+ghost use Rattle.std.specs.Prelude.{◌≡◌};
 ghost use Rattle.figures.specs.Entries.{new_member, new_place, new_resource, vacant_resource, generator_in, is_generator};
 
 use super::{Member, Place, Resource, Unit};

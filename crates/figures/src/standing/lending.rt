@@ -11,7 +11,7 @@ impl<'a> Standing<'a> {
     pub fn new(places: &'a [Place], resources: &'a [Resource]) -> Option<Standing<'a>>
         ensures { seen result ≡ lent places.now resources.now }
     {
-        // An early return: in a closure, as `then` takes one, the bound would have to be stated again.
+        // Tested here, as in `Roll::new`: what is made differs, and so does what its type asks.
         if resources.len() > MOST_RESOURCES {
             return None;
         }
