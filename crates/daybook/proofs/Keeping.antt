@@ -1,5 +1,5 @@
 -- What the changes of a table keep: what is named is still there, and ids are still ids.
-use Rattle.std.proofs.Common.{◌≡◌, ℕ, ◌-◌, ◌≤◌, Bool, true, eqb, leb, List, [], ◌∷◌, map, is_some, is_ok, Some, Option, refl, ap, ◌∙◌, length-set, arith, sym}
+use Rattle.std.proofs.Common.{◌≡◌, ℕ, ◌≤◌, Bool, true, leb, List, [], ◌∷◌, map, is_some, is_ok, Some, refl, ◌∙◌, arith, sym}
 use Rattle.std.proofs.lemmas.Bool.{cond_both, le-leb}
 use Rattle.std.proofs.lemmas.Grind.{common_steps}
 use Rattle.std.proofs.lemmas.List.Folds.{list_all-map}
@@ -8,8 +8,7 @@ use Rattle.table.specs.Tables.{insert_reply, insert_after}
 use Rattle.figures.specs.declared.standing.Resource.{Resource}
 use Rattle.figures.specs.Named.{all_named}
 use Rattle.figures.specs.Owners.{among}
-use Rattle.hours.specs.Days.{placed}
-use Rattle.daybook.specs.Numbers.{every, all_ids, whole_day}
+use Rattle.daybook.specs.Numbers.{every, all_ids}
 
 module _ {E : Type 0} (key : E → ℕ) where
   pub among-found : (k : ℕ) (xs : List E) → is_some (lookup key k xs) ≡ true → among (map key xs) k ≡ true
@@ -51,7 +50,3 @@ pub ids_after : {E : Type 0} (key : E → ℕ) (e : E) (xs : List E) (n : ℕ) �
 ids_after key e xs n one h =
     list_all-map (leb 1) key (insert_after key e xs n)
     ∙ every-after key (λ x. leb 1 (key x)) e (le-leb 1 (key e) one) xs n (sym (list_all-map (leb 1) key xs) ∙ h)
-
--- a day keeps its slots
-pub still_whole : {X : Type 0} (slots : List (Option X)) (h : ℕ) (slot : Option X) → whole_day slots ≡ true → whole_day (placed slots h slot) ≡ true
-still_whole slots h slot whole = ap (λ n. eqb n 24) (length-set slots (h - 1) slot) ∙ whole

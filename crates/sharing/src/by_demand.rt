@@ -1,4 +1,4 @@
-ghost use Rattle.std.specs.Prelude.{◌≡◌, ◌≤◌, length, replicate, OnOk, unsigned_abs};
+ghost use Rattle.std.specs.Prelude.{◌≡◌, length, OnOk, unsigned_abs};
 ghost use Rattle.std.proofs.Common.{sym, subst};
 ghost use Rattle.sharing.specs.Rows.{demands};
 ghost use Rattle.sharing.specs.Admission.{admitted, answered, filled};

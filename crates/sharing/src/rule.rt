@@ -1,4 +1,4 @@
-ghost use Rattle.std.specs.Prelude.{◌≡◌, ℕ, ◌≤◌, List, length, take, Err, OnOk, unsigned_abs};
+ghost use Rattle.std.specs.Prelude.{◌≡◌, ℕ, List, length, take, Err, OnOk, unsigned_abs};
 ghost use Rattle.sharing.specs.declared.rows.MemberRow.{MemberRow};
 ghost use Rattle.sharing.specs.Admission.{admitted, answered, filled, no_demand, Due, Exactly, NobodyBears};
 ghost use Rattle.sharing.specs.ShareLaw.{Fair};

@@ -39,7 +39,7 @@ impl PoolDay {
         [
             Terms {
                 energy: self.supply.hours.energy(prices),
-                uplift: uplift as i64,
+                uplift: signed(uplift),
             },
             Terms {
                 energy: self.load.energy(prices),

@@ -1,4 +1,4 @@
-ghost use Rattle.std.specs.Prelude.{◌≡◌, ℤ};
+ghost use Rattle.std.specs.Prelude.{ℤ};
 ghost use Rattle.daybook.specs.Calls.{register_member, register_place, register_generator, register_load, post_price, post_generator_hour, post_load_hour, strike as to-strike};
 ghost use Rattle.daybook.specs.Changes.{Follows};
 ghost use Rattle.daybook.specs.Held.{held};

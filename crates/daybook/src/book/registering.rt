@@ -15,7 +15,6 @@ use figures::{Member, Place, Resource, Unit};
 use refusal::{Kind, Refusal, Store};
 use table::{Keyed, Table};
 
-// One function a table: the book's ghost fields tie each table to the others in a way of its own.
 impl<'a> DayBook<'a> {
     // Whether a new entry may be registered in a table now.
     fn may_add<E: Keyed<Key = u16> + Copy>(
@@ -40,6 +39,7 @@ impl<'a> DayBook<'a> {
         self.no_draft_out()
     }
 
+    // One function a table, here and in the next two: the book's ghost fields tie each table to the others in its own way.
     pub(crate) fn enter_member(&mut self, id: Id) -> Result<(), Refusal>
         ensures { Answers (brings (the_member id.number)) (held self.old) (held self.new) result }
     {

@@ -1,7 +1,7 @@
 ghost use Rattle.std.specs.Prelude.{◌≡◌, ◌+◌, ◌<◌, ◌≤◌, ◌∷◌, ◌++◌, length, take, drop, slice_set};
 ghost use Rattle.table.specs.Entries.{inserted, same_keys};
 
-use crate::key::{Keyed, Rank};
+use crate::key::Keyed;
 
 // Where an entry goes: before the first whose key is not below its own, in whatever order the entries stand.
 pub(crate) fn place<E: Keyed + Copy>(rows: &[E], item: E) -> usize
@@ -21,7 +21,8 @@ pub(crate) fn insert_at<E: Copy>(slots: &mut [E], at: usize, len: usize, item: E
     slots[at] = item;
 }
 
-// `put` and `put_front` take the slots alone: written through a table's field, too little is known of them for a proof.
+// `put` and `put_front` take the slots alone. Copied into through a table's field, nothing is known of them but their number,
+// and before an entry is written there, a proof asks for an idle call of `all`.
 pub(crate) fn put<E: Copy>(slots: &mut [E], at: usize, item: E)
     requires { at < length slots.old }
     ensures { slots.new ≡ slice_set slots.old at item }
