@@ -1,5 +1,5 @@
 -- Two lists, place by place: their lengths, places and sums.
-use Rattle.std.specs.Prelude.{◌≡◌, ℕ, zero, suc, ◌+◌, ◌≤◌, min, List, [], ◌∷◌, length, sum, slice_index, refl}
+use Rattle.std.specs.Prelude.{◌≡◌, ℕ, zero, suc, ◌+◌, ◌≤◌, min, List, [], ◌∷◌, ◌++◌, length, sum, slice_index, refl}
 use Rattle.std.proofs.Common.{sym, ap, arith}
 use Rattle.sharing.specs.Rules.{both}
 use Rattle.sharing.specs.Quotients.{sum-cons}
@@ -16,6 +16,19 @@ module _ (f : ℕ → ℕ → ℕ) where
   get_or-both (x ∷ xs) [] e z k = absurd (omega arith)
   get_or-both (x ∷ xs) (y ∷ ys) e z zero = refl
   get_or-both (x ∷ xs) (y ∷ ys) e z (suc k) = get_or-both xs ys (omega arith) z k
+
+  -- what goes beyond the shorter does not count
+  pub both-front : (xs ys rest : List ℕ) → length xs ≡ length ys → both f (xs ++ rest) ys ≡ both f xs ys
+  both-front [] [] [] e = refl
+  both-front [] [] (r ∷ rest) e = refl
+  both-front [] (y ∷ ys) rest e = absurd (omega arith)
+  both-front (x ∷ xs) [] rest e = absurd (omega arith)
+  both-front (x ∷ xs) (y ∷ ys) rest e = ap (λ l. f x y ∷ l) (both-front xs ys rest (omega arith))
+
+  pub both-back : (xs ys rest : List ℕ) → length xs ≡ length ys → both f xs (ys ++ rest) ≡ both f xs ys
+  both-back [] ys rest e = refl
+  both-back (x ∷ xs) [] rest e = absurd (omega arith)
+  both-back (x ∷ xs) (y ∷ ys) rest e = ap (λ l. f x y ∷ l) (both-back xs ys rest (omega arith))
 
 pub sum_both : (xs ys : List ℕ) → length xs ≡ length ys → sum (both ◌+◌ xs ys) ≡ sum xs + sum ys
 sum_both [] [] e = refl

@@ -1,5 +1,7 @@
 pub mod Rows
 pub mod Admission
+pub mod Admits
+pub mod Written
 pub mod Levies
 pub mod ShareLaw
 pub mod ProRata

@@ -1,9 +1,9 @@
 -- A capped tier keeps the share law over any rule that keeps it.
 --
 --   rest   what the own amounts leave of a total
-use Rattle.std.specs.Prelude.{◌≡◌, ℕ, ◌-◌, ◌+◌, ◌≤◌, min, List, length, sum, slice_index, refl}
-use Rattle.std.proofs.Common.{sym, ap₂, ◌∙◌, arith}
-use Rattle.std.proofs.lemmas.List.{length-map}
+use Rattle.std.specs.Prelude.{◌≡◌, ℕ, ◌-◌, ◌+◌, ◌<◌, ◌≤◌, min, List, length, sum, slice_index, slice_index_or, refl}
+use Rattle.std.proofs.Common.{sym, ap, ap₂, ◌∙◌, arith}
+use Rattle.std.proofs.lemmas.List.{length-map, get_or-map}
 use Rattle.std.proofs.lemmas.Int.{ints}
 use Rattle.sharing.specs.declared.rows.MemberRow.{MemberRow}
 use Rattle.sharing.specs.Rows.{deviations}
@@ -23,14 +23,22 @@ due_less t s rows h due = record {
   somebody_bears = λ above. due.somebody_bears (omega (arith, above));
 }
 
+module _ (rate : ℕ) (rows : List MemberRow) where
+  pub length-caps : length (caps rate rows) ≡ length rows
+  length-caps = length-map (deviations rows) (cap rate) ∙ length-map rows (λ (r : MemberRow). r.deviation)
+
+  pub get_or-caps : (i : ℕ) (d : MemberRow) → i < length rows → slice_index (caps rate rows) i ≡ cap rate (slice_index_or rows i d).deviation
+  get_or-caps i d h =
+      let long = length-map rows (λ (r : MemberRow). r.deviation) in
+      get_or-map (cap rate) (deviations rows) i 0 0 (omega arith) ∙ ap (cap rate) (get_or-map (λ (r : MemberRow). r.deviation) rows i d 0 h)
+
 module _ (rate total : ℕ) (rows : List MemberRow) where
   one-cap-each : length (pro_rata total (deviations rows)) ≡ length (caps rate rows)
   one-cap-each = length-pro_rata total (deviations rows) ∙ sym (length-map (deviations rows) (cap rate))
 
   pub length_own : length (own_amounts rate total rows) ≡ length rows
   length_own =
-      length_both min (pro_rata total (deviations rows)) (caps rate rows) one-cap-each
-      ∙ length-pro_rata total (deviations rows) ∙ length-map rows (λ (r : MemberRow). r.deviation)
+      length_both min (pro_rata total (deviations rows)) (caps rate rows) one-cap-each ∙ one-cap-each ∙ length-caps rate rows
 
   pub own_within : sum (own_amounts rate total rows) ≤ total
   own_within = omega (arith, sum_lesser (pro_rata total (deviations rows)) (caps rate rows), pro_rata-within total (deviations rows))

@@ -1,5 +1,4 @@
 pub mod Laws
-mod Keys
 mod Words
 mod Positions
 mod Writes

@@ -1,11 +1,15 @@
-ghost use Rattle.std.specs.Prelude.{◌≡◌, ℕ, refl};
-ghost use Rattle.std.specs.Ordering.{nat_cmp};
+ghost use Rattle.std.specs.Prelude.{◌≡◌, ℕ, ◌==◌, nat_lt};
 
-// A key's rank is a number that orders keys as `cmp` does. Code compares keys and never makes the number.
-pub trait Rank: Ord {
+// A key with a total order. Its rank is a number that orders keys alike; code compares keys and never makes the number.
+// It asks no order of std's: a key may have none, or another, and these two are all that a table needs.
+pub trait Rank {
     ghost rank: { Self → ℕ };
 
-    ghost orders: { (a b : Self) → Self.cmp a b ≡ nat_cmp (rank a) (rank b) };
+    fn same(&self, other: &Self) -> bool
+        ensures { result ≡ (rank self.now == rank other.now) };
+
+    fn below(&self, other: &Self) -> bool
+        ensures { result ≡ nat_lt (rank self.now) (rank other.now) };
 }
 
 // What a table holds. The ghost member is the rank of an entry's key.
@@ -21,5 +25,11 @@ pub trait Keyed {
 impl Rank for u16 {
     ghost rank = { λ n. n };
 
-    ghost orders = { λ a b. refl };
+    fn same(&self, other: &u16) -> bool {
+        *self == *other
+    }
+
+    fn below(&self, other: &u16) -> bool {
+        *self < *other
+    }
 }

@@ -1,15 +1,16 @@
--- An array made of another's elements.
-use Rattle.std.proofs.Common.{◌≡◌, ℕ, List, [], ◌∷◌, map, length, sym, ◌∙◌, arith}
-use Rattle.std.proofs.lemmas.List.{same_lists, length-map, get_or-map, nil_from_length}
-use Rattle.std.specs.Fn.{Called}
-use Rattle.std.specs.Array.{IsMapOf}
+-- An array that `from_fn` makes of another's elements.
+use Rattle.std.proofs.Common.{◌≡◌, ℕ, ◌<◌, List, map, length, get_or, sym, ◌∙◌, arith}
 use denote.Param.Members.{Mut}
+use Rattle.std.proofs.lemmas.List.{length-map, get_or-map}
+use Rattle.std.specs.Array.{IsFromFnResult}
+use Rattle.std.specs.Fn.{Called}
+use Rattle.hours.proofs.Arrays.{all_made}
 
--- ys is what `xs.map(h)` gives
-pub mapped : {F A B : Type 0} (g : Mut F (A × Unit {0}) B) (h : A → B) (f : F) (xs : List A) (ys : List B) (n : ℕ) → IsMapOf g f xs ys n → length xs ≡ n
-    → ((p : F) (x : A) (y : B) (q : F) → Called g p (x, tt) y q → y ≡ h x) → ys ≡ map h xs
-mapped g h f [] ys n m long computes = nil_from_length ys (m.long ∙ sym long)
-mapped g h f (x ∷ xs) ys n m long computes =
-    same_lists ys (map h (x ∷ xs)) (m.long ∙ sym long ∙ sym (length-map (x ∷ xs) h)) (λ k d below.
-    let call = (m.at k x d (omega (arith, m.long))).2 in
-    computes _ _ _ _ call ∙ sym (get_or-map h (x ∷ xs) k x d (omega (arith, m.long))))
+-- f answers h of what stands at each index of xs, and no call changes f
+module _ {F A B : Type 0} (g : Mut F (ℕ × Unit {0}) B) (h : A → B) (f : F) (xs : List A) (ys : List B) (d : A)
+    (call : (i : ℕ) (y : B) (q : F) → Called g f (i, tt) y q → (q ≡ f) × (i < length xs → y ≡ h (get_or xs i d))) where
+  pub made_of : (n : ℕ) → IsFromFnResult g f ys n → length xs ≡ n → ys ≡ map h xs
+  made_of n made long =
+      let size = length-map xs h in
+      all_made g f ys (map h xs)
+      (λ i y q k. ((call i y q k).0, λ below e. (call i y q k).1 (omega arith) ∙ sym (get_or-map h xs i d e (omega arith)))) n made (size ∙ long)

@@ -1,4 +1,4 @@
-ghost use Rattle.std.specs.Prelude.{◌≡◌};
+ghost use Rattle.std.specs.Prelude.{◌≡◌, ◌<◌, None, slice_index_or};
 ghost use Rattle.commitment.specs.CommitmentLaws.{SelfCommitted};
 ghost use Rattle.commitment.specs.Stretches.{listed};
 ghost use Rattle.tariff.specs.Schedules.{flagged, flags, periods_of};
@@ -6,6 +6,7 @@ ghost use Rattle.tariff.specs.Schedules.{flagged, flags, periods_of};
 use crate::generator::Generator;
 use commitment::{Stretches, periods};
 use hours::{Day, HourRecord};
+use std::array;
 
 fn is_flagged(slot: Option<HourRecord>) -> bool
     ensures { result ≡ flagged slot }
@@ -13,10 +14,18 @@ fn is_flagged(slot: Option<HourRecord>) -> bool
     HourRecord::counted(slot).self_schedule > 0
 }
 
+// Whether the hour is flagged that follows the first `at`.
+fn flag_at(slots: &[Option<HourRecord>; 24], at: usize) -> bool
+    requires { at < 24 }
+    ensures { result ≡ flagged (slice_index_or slots.now at None) }
+{
+    is_flagged(slots[at])
+}
+
 fn flags(slots: &[Option<HourRecord>; 24]) -> [bool; 24]
     ensures { result ≡ flags slots.now }
 {
-    slots.map(is_flagged)
+    array::from_fn(|at| flag_at(slots, at))
 }
 
 impl Generator {

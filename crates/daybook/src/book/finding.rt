@@ -52,7 +52,7 @@ impl<'a> DayBook<'a> {
     }
 
     // The resource, if it is of the kind that is meant: a load is no generator.
-    pub(crate) fn resource_as<F: FnOnce(Unit) -> bool>(
+    pub(crate) fn resource_as<F: Fn(Unit) -> bool>(
         &self,
         id: Id,
         meant: F,
@@ -61,10 +61,11 @@ impl<'a> DayBook<'a> {
         ensures there { IfOk result (λ r. lookup resource_key id.number (held self.now).resources ≡ Some r) }
         ensures value { (kind : Sort → Bool) → Tells (F.post meant) kind → result ≡ found_as kind id.number (lookup resource_key id.number (held self.now).resources) }
     {
-        self.resources
-            .get(id.number)
-            .filter(|resource| meant(resource.unit))
-            .ok_or(not_registered(id, Kind::Resource))
+        // Matched: in a chain `filter` and `ok_or` would each move a whole resource, with its day.
+        match self.resources.get(id.number) {
+            Some(resource) if meant(resource.unit) => Ok(resource),
+            _ => Err(not_registered(id, Kind::Resource)),
+        }
     }
 
     pub(crate) fn no_draft_out(&self) -> Result<(), Refusal>

@@ -28,7 +28,7 @@ impl<'a> DayBook<'a> {
     }
 
     // An hour record for a resource of the kind that is meant.
-    pub(crate) fn enter_hour<F: FnOnce(Unit) -> bool>(
+    pub(crate) fn enter_hour<F: Fn(Unit) -> bool>(
         &mut self,
         slot: Slot,
         record: HourRecord,

@@ -2,7 +2,7 @@ ghost use Rattle.std.specs.Prelude.{◌≡◌, ◌≤◌, min, [], length, ◌==
 ghost use Rattle.table.specs.Entries.{position, lookup};
 ghost use Rattle.table.specs.Tables.{entries, room};
 
-use crate::key::Keyed;
+use crate::key::{Keyed, Rank};
 use crate::table::Table;
 
 impl<'a, E> Table<'a, E> {
@@ -50,12 +50,15 @@ impl<'a, E: Keyed + Copy> Table<'a, E> {
     pub fn find(&self, wanted: E::Key) -> Option<usize>
         ensures { result ≡ position E.key (E.Key.Rank.rank wanted) (entries self.now) }
     {
-        self.all().iter().position(|row| row.key() == wanted)
+        self.all().iter().position(|row| row.key().same(&wanted))
     }
 
     pub fn get(&self, wanted: E::Key) -> Option<E>
         ensures { result ≡ lookup E.key (E.Key.Rank.rank wanted) (entries self.now) }
     {
-        self.all().iter().find(|row| row.key() == wanted).copied()
+        self.all()
+            .iter()
+            .find(|row| row.key().same(&wanted))
+            .copied()
     }
 }

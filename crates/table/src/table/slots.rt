@@ -1,7 +1,7 @@
 ghost use Rattle.std.specs.Prelude.{◌≡◌, ◌+◌, ◌<◌, ◌≤◌, ◌∷◌, ◌++◌, length, take, drop, slice_set};
 ghost use Rattle.table.specs.Entries.{inserted, same_keys};
 
-use crate::key::Keyed;
+use crate::key::{Keyed, Rank};
 
 // Where an entry goes: before the first whose key is not below its own, in whatever order the entries stand.
 pub(crate) fn place<E: Keyed + Copy>(rows: &[E], item: E) -> usize
@@ -9,7 +9,7 @@ pub(crate) fn place<E: Keyed + Copy>(rows: &[E], item: E) -> usize
     ensures splits { inserted E.key item rows.now ≡ take result rows.now ++ (item ∷ drop result rows.now) }
 {
     let key = item.key();
-    rows.iter().take_while(|row| row.key() < key).count()
+    rows.iter().take_while(|row| row.key().below(&key)).count()
 }
 
 // The slots from `at` on, up to `len`, move up by one.
@@ -44,5 +44,5 @@ pub(crate) fn same_keys<E: Keyed>(rows: &[E], others: &[E]) -> bool
         && rows
             .iter()
             .zip(others)
-            .all(|(row, other)| row.key() == other.key())
+            .all(|(row, other)| row.key().same(&other.key()))
 }

@@ -46,7 +46,8 @@ fn kinds_in(periods: &Stretches, slots: &[Option<HourRecord>; 24]) -> [HourKind;
 fn marks(kinds: &[HourKind; 24]) -> [bool; 24]
     ensures { result ≡ map is_on kinds.now }
 {
-    kinds.map(HourKind::is_on)
+    // By index, here and for the flags: an array's own `map` takes it apart first, and takes twice as long.
+    array::from_fn(|at| kinds[at].is_on())
 }
 
 // The runs of a day: the longest stretches of hours that are on.

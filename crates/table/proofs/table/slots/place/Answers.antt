@@ -5,7 +5,6 @@ use Rattle.std.proofs.lemmas.List.Sums.{prefix_len-le-length}
 use Rattle.std.proofs.lemmas.Iterator.{YieldsList-from_slice}
 use Rattle.std.proofs.lemmas.Iterator.Consumers.{count_from_yields_List}
 use Rattle.std.proofs.lemmas.Iterator.Search.{YieldsList-from_take_while}
-use Rattle.table.proofs.Keys.{below_ranks}
 use Rattle.table.proofs.Words.{inserted-is}
 use Rattle.table.proofs.table.slots.place.Goals as goal
 
@@ -15,6 +14,5 @@ returns g c =
     let item = c.args.item in
     let rows = c.args.rows.now in
     let p : g.row.E.Denot → Bool = λ x. ltb (key x) (key item) in
-    let below = below_ranks g.E.Key.Rank.rank g.E.Key.Ord.cmp g.met.E.Key.Rank.orders g.E.Key.PartialOrd.partial_cmp g.met.E.Key.Ord.matches_partial_cmp in
-    let n : c.count.result ≡ lists.prefix_len p rows = count_from_yields_List c.take_while.result _ c.count.ensures.ran (YieldsList-from_take_while _ p (YieldsList-from_slice rows cc) c.take_while.ensures.closure c.take_while.ensures.done (λ x b q k. search (rules, tests, below))) ∙ length-prefix_len p rows in
+    let n : c.count.result ≡ lists.prefix_len p rows = count_from_yields_List c.take_while.result _ c.count.ensures.ran (YieldsList-from_take_while _ p (YieldsList-from_slice rows cc) c.take_while.ensures.closure c.take_while.ensures.done (λ x b q k. search (rules, tests))) ∙ length-prefix_len p rows in
     record { within = omega (arith, n, prefix_len-le-length p rows); splits = inserted-is key item rows ∙ ap (λ i. lists.insert rows i item) (sym n) }
